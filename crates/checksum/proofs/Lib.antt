@@ -1,0 +1,12 @@
+pub mod Sums
+pub mod Registers
+pub mod Division
+pub mod Dividends
+pub mod BitLoop
+pub mod ByteLoop
+pub mod Unique
+pub mod LongDivision
+pub mod Constants
+pub mod Answers
+pub mod Adjusted
+pub mod Claims

@@ -1,0 +1,12 @@
+pub mod Poly
+pub mod Checksum
+pub mod Chip
+pub mod Slip
+pub mod Scan
+pub mod Pages
+pub mod Refusals
+pub mod Calls
+pub mod Waiting
+pub mod Fifo
+pub mod Cases
+pub mod Examples
