@@ -241,3 +241,24 @@ planned (Refused r) own = plan [] (refused r)
 
 unfoldable pub call : ℕ → Shape → (Geometry → Plan Answer) → Plan Answer
 call n s own = planned (check n s) own
+
+-- the six calls, each with what it is given: a slip and whether overwriting is on; a buffer's size
+pub data Request : Type 0 where
+  pushing : List ℕ → Bool → Request
+  peeking : ℕ → Request
+  popping : ℕ → Request
+  fitting : Request
+  measuring : Request
+  erasing : Request
+
+unfoldable pub planFor : Geometry → List ℕ → Request → Plan Answer
+planFor g im (pushing slip over) = push g im slip over
+planFor g im (peeking n) = peek g im n
+planFor g im (popping n) = pop g im n
+planFor g im fitting = findMaxFit g im
+planFor g im measuring = spaceLeft g im
+planFor g im erasing = eraseAll g
+
+-- a public call: any request, on any shape and image
+unfoldable pub requested : Shape → List ℕ → Request → Plan Answer
+requested s im c = call (length im) s (λ g. planFor g im c)

@@ -6,9 +6,19 @@ use lib.Dec.{eqb, ltb}
 use Rattle.paper.specs.declared.Shape.{Shape}
 use Rattle.paper.specs.Chip.{Geometry, roundUp}
 pub use Rattle.paper.specs.declared.Refusal.{Refusal}
-pub use Rattle.paper.specs.declared.Refusal.the-variants as refusal
+use Rattle.paper.specs.declared.Refusal.the-variants as refusal
 pub use Rattle.paper.specs.declared.Checked.{Checked}
 pub use Rattle.paper.specs.declared.Checked.the-variants.{Accepted, Refused}
+pub use Rattle.paper.specs.declared.Pushed.{Pushed}
+use Rattle.paper.specs.declared.Pushed.the-variants as pushed
+pub use Rattle.paper.specs.declared.Shown.{Shown}
+use Rattle.paper.specs.declared.Shown.the-variants as shows
+pub use Rattle.paper.specs.declared.Fit.{Fit}
+use Rattle.paper.specs.declared.Fit.the-variants as fits
+pub use Rattle.paper.specs.declared.Space.{Space}
+use Rattle.paper.specs.declared.Space.the-variants as spaces
+pub use Rattle.paper.specs.declared.Erased.{Erased}
+use Rattle.paper.specs.declared.Erased.the-variants as erased
 
 -- ---- limits
 
@@ -99,3 +109,27 @@ numbers (number n) = 0 ∷ n ∷ []
 numbers none = 0 ∷ []
 numbers empty = 1 ∷ []
 numbers (refused r) = row r
+
+-- "For every answer that is an enum, a definition gives this paper's number and values for each case of the enum": the answer that each
+-- case of a call's enum stands for; `numbers` has the rest
+abbrev pub pushedAs : Pushed → Answer
+pushedAs pushed.Done = done
+pushedAs (pushed.Refused r) = refused r
+
+abbrev pub shownAs : Shown → Answer
+shownAs (shows.Slip n) = shown n
+shownAs shows.Empty = empty
+shownAs (shows.Refused r) = refused r
+
+abbrev pub fitAs : Fit → Answer
+fitAs (fits.Longest n) = number n
+fitAs fits.Nothing = none
+fitAs (fits.Refused r) = refused r
+
+abbrev pub spaceAs : Space → Answer
+spaceAs (spaces.Left n) = number n
+spaceAs (spaces.Refused r) = refused r
+
+abbrev pub erasedAs : Erased → Answer
+erasedAs erased.Done = done
+erasedAs (erased.Refused r) = refused r

@@ -46,3 +46,35 @@ pub enum Checked {
     Accepted(Geometry),
     Refused(Refusal),
 }
+
+// What each call answers.
+pub enum Pushed {
+    Done,
+    Refused(Refusal),
+}
+
+// Peek and pop: a slip of this length stands at the buffer's front, or no item is present.
+pub enum Shown {
+    Slip(usize),
+    Empty,
+    Refused(Refusal),
+}
+
+// find_max_fit: the longest length, or that there is none.
+pub enum Fit {
+    Longest(usize),
+    Nothing,
+    Refused(Refusal),
+}
+
+// space_left
+pub enum Space {
+    Left(usize),
+    Refused(Refusal),
+}
+
+// erase_all
+pub enum Erased {
+    Done,
+    Refused(Refusal),
+}
