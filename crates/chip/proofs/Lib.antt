@@ -1,0 +1,11 @@
+pub mod Rounding
+pub mod Geometry
+pub mod Checking
+pub mod Budgets
+pub mod Running
+pub mod Quiet
+pub mod Binding
+pub mod Repairing
+pub mod Limiting
+pub mod Stores
+pub mod Writing
