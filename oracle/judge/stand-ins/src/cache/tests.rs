@@ -1,0 +1,1 @@
+// stands in for the tests of the crate's caches
