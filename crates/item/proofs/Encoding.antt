@@ -1,0 +1,39 @@
+-- A header's bytes, as the code makes them and as they are written. Assumes nothing.
+use mathlib.Core.Path.{_≡_, ap, ap₂, _∙_}
+use mathlib.Core.List.{List, [], _∷_}
+use Prim.Native.Nat.{ℕ, _+_, _-_, _/_, _%_}
+use native.Mathlib.Omega.{arith}
+use lib.ListN.{length, take, replicate, length-replicate}
+use lib.Seq.{take-append-add}
+use Rattle.paper.specs.declared.Geometry.{Geometry}
+use Rattle.paper.specs.Checksum.{lengthCrc}
+use Rattle.paper.specs.Chip.{roundUp, headerSize}
+use Rattle.paper.specs.Slip.{bytesOf, encode}
+use Rattle.chip.specs.Within.{Good}
+use Rattle.chip.proofs.Rounding.{round-up-again}
+use Rattle.chip.proofs.Writing.{take-replicate}
+
+module _ (g : Geometry) (good : Good g) (crc len : ℕ) where
+  -- four bytes of the CRC, two of the length, two of its checksum s, and FF
+  pub encode-is : (a b c d e f h i s : ℕ) → a ≡ crc % 256 → b ≡ crc / 256 % 256 → c ≡ crc / 256 / 256 % 256 → d ≡ crc / 256 / 256 / 256 % 256
+      → e ≡ len % 256 → f ≡ len / 256 % 256 → s ≡ lengthCrc (e ∷ f ∷ []) → h ≡ s % 256 → i ≡ s / 256 % 256
+      → take (headerSize g) (a ∷ b ∷ c ∷ d ∷ e ∷ f ∷ h ∷ i ∷ replicate 24 0xff) ≡ encode g crc len
+  unfolding encode bytesOf
+  encode-is a b c d e f h i s ea eb ec ed ee ef es eh ei =
+      let front : List ℕ = a ∷ b ∷ c ∷ d ∷ e ∷ f ∷ h ∷ i ∷ [] in
+      let k : ℕ = headerSize g - 8 in
+      let z : headerSize g ≡ 8 + (headerSize g - 8) = omega arith in
+      let y : s ≡ lengthCrc (len % 256 ∷ len / 256 % 256 ∷ []) = es ∙ ap₂ (λ (x y : ℕ). lengthCrc (x ∷ y ∷ [])) ee ef in
+      ap (λ (n : ℕ). take n (a ∷ b ∷ c ∷ d ∷ e ∷ f ∷ h ∷ i ∷ replicate 24 0xff)) z
+      ∙ take-append-add front (replicate 24 0xff) k
+      ∙ ap (λ (x : List ℕ). a ∷ b ∷ c ∷ d ∷ e ∷ f ∷ h ∷ i ∷ x) (take-replicate k 24 0xff (omega arith))
+      ∙ rw (ea, eb, ec, ed, ee, ef, eh, ei, y)
+
+  pub length-encode : length (encode g crc len) ≡ headerSize g
+  unfolding encode bytesOf
+  length-encode = simp length-replicate (omega arith)
+
+  -- it fills whole words
+  pub round-up-encode : roundUp (g .word) (length (encode g crc len)) ≡ headerSize g
+  unfolding headerSize
+  round-up-encode = ap (roundUp (g .word)) length-encode ∙ round-up-again (g .word) 8 (omega arith)

@@ -1,0 +1,57 @@
+-- `item::Item::write_new` meets its contract: the header's stores, and then the payload's. Assumes nothing.
+use borrow.Author.Needs.{needs}
+use native.Mathlib.Omega.{arith}
+use Prim.Native.Nat.{_+_}
+use Rattle.paper.specs.Chip.{headerSize, writes}
+use Rattle.paper.specs.Calls.{itemAt}
+use Rattle.checksum.proofs.Answers.{data-is}
+use Rattle.chip.proofs.Running.{did-then, did-cut}
+use Rattle.item.proofs.Item.write_new.Statement.{statement}
+use Rattle.item.proofs.Item.write_new.Tie as tie
+
+cast-t10 : tie.Need-cast-t10
+cast-t10 c = search needs
+
+adapted-crc32-requires : tie.Need-adapted-crc32-requires
+adapted-crc32-requires c κs = search needs
+
+data-address-requires : tie.Need-data-address-requires
+data-address-requires c κs = (c .before .before .before .pre .0 .good, omega (arith, c .before .before .before .pre .0 .top))
+
+write-requires : tie.Need-write-requires
+write-requires c κs = c .before .before .before .before .before .pre .0
+
+same-length : tie.Need-same-length
+same-length c = search needs
+
+returns : tie.Need-returns
+unfolding itemAt
+returns c =
+    let e = data-is (c .before .before .before .before .before .before .adapted-crc32 .ensures) in
+    rw (← e) (did-cut (c .before .before .before .write .ensures) (writes (c .before .before .before .before .before .before .before .before .before .args .g) (c .before .before .before .before .before .before .before .before .before .args .address .0 + headerSize (c .before .before .before .before .before .before .before .before .before .args .g)) (c .before .before .before .before .before .before .before .before .before .args .slip .now)) (c .if1 .taken))
+
+write-requires-2 : tie.Need-write-requires-2
+write-requires-2 c κs = (c .before .before .before .before .before .before .before .before .before .before .pre .0 .good, omega (arith, c .before .before .before .before .before .before .data-address .ensures, c .before .before .before .before .before .before .before .before .before .before .pre .0 .fits, c .before .before .before .before .write .kept .1 .0), omega (arith, c .before .before .before .before .before .before .data-address .ensures, c .before .before .before .before .before .before .before .before .before .before .pre .0 .top))
+
+same-length-2 : tie.Need-same-length-2
+same-length-2 c = search needs
+
+returns-2 : tie.Need-returns-2
+unfolding itemAt
+returns-2 c =
+    let e = data-is (c .before .before .before .before .before .before .before .before .before .before .adapted-crc32 .ensures) in
+    rw (← e, ← c .before .before .before .before .before .before .before .before .before .data-address .ensures) (did-then (c .before .before .before .before .before .before .before .write .ensures) (c .before .before .before .before .if1 .left) (c .before .before .write2 .ensures))
+
+pub write-new-spec : {M : Type 1} → statement M
+write-new-spec =
+    tie.close
+    (tie.spec
+    cast-t10
+    adapted-crc32-requires
+    data-address-requires
+    write-requires
+    same-length
+    returns
+    write-requires-2
+    same-length-2
+    returns-2)

@@ -1,0 +1,49 @@
+-- `item::ItemHeader::write` meets its contract: the bytes that it lends are the encoded header, which fills whole words. Assumes nothing.
+use borrow.Author.Needs.{needs}
+use native.Mathlib.Omega.{arith}
+use mathlib.Core.Path.{sym, ap, _∙_}
+use lib.ListN.{length}
+use Rattle.item.proofs.Encoding.{length-encode, round-up-encode}
+use Rattle.item.proofs.ItemHeader.write.Statement.{statement}
+use Rattle.item.proofs.ItemHeader.write.Tie as tie
+
+encoded-requires : tie.Need-encoded-requires
+encoded-requires c κs = c .before .pre .good
+
+header-size-requires : tie.Need-header-size-requires
+header-size-requires c κs = c .before .before .pre .good
+
+array-share-prefix-bytes : tie.Need-array-share-prefix-bytes
+array-share-prefix-bytes c = omega (arith, c .before .header-size .ensures, c .before .before .before .before .pre .good)
+
+slice-aggregate-write : tie.Need-slice-aggregate-write
+slice-aggregate-write c =
+    let e = rw (sym (c .before .before .header-size .ensures)) at (c .before .before .before .encoded .ensures) in
+    sym (ap length e ∙ length-encode (c .before .before .before .before .before .args .g) (c .before .before .before .before .before .pre .good) _ _ ∙ sym (c .before .before .header-size .ensures))
+
+write-requires : tie.Need-write-requires
+write-requires c κs =
+    let a = c .before .before .before .before .before .args in
+    let e = rw (sym (c .before .before .header-size .ensures)) at (c .before .before .before .encoded .ensures) in
+    let u = round-up-encode (a .g) (c .before .before .before .before .before .pre .good) (a .self .crc) (a .self .length) in
+    (rw e (c .before .before .before .before .before .pre .good, omega (arith, c .before .before .before .before .before .pre .fits), omega (arith, c .before .before .before .before .before .pre .top)))
+
+same-length : tie.Need-same-length
+same-length c = search needs
+
+returns : tie.Need-returns
+returns c =
+    let e = rw (sym (c .before .before .before .before .before .header-size .ensures)) at (c .before .before .before .before .before .before .encoded .ensures) in
+    rw e at (c .before .before .write .ensures)
+
+pub write-spec : {M : Type 1} → statement M
+write-spec =
+    tie.close
+    (tie.spec
+    encoded-requires
+    header-size-requires
+    array-share-prefix-bytes
+    slice-aggregate-write
+    write-requires
+    same-length
+    returns)

@@ -1,0 +1,13 @@
+pub mod Parts
+pub mod Blank
+pub mod Copying
+pub mod Decoding
+pub mod Looking
+pub mod Encoding
+pub mod Walking
+pub mod Live
+pub mod PageScan
+pub mod Serving
+pub mod Fresh
+pub mod ReadingItem
+pub mod ReadingHeads

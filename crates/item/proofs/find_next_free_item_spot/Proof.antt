@@ -1,0 +1,48 @@
+-- `item::find_next_free_item_spot` meets its contract: the spot serves what is available behind it. Assumes nothing.
+use borrow.Author.Needs.{needs}
+use native.Mathlib.Omega.{arith}
+use mathlib.Core.Path.{sym, ap, _∙_}
+use Rattle.item.specs.declared.Available.the-variants as room
+use Rattle.item.specs.Headers.{available}
+use Rattle.item.proofs.Serving.{serves-yes, serves-no, serves-none}
+use Rattle.item.proofs.find_next_free_item_spot.Statement.{statement}
+use Rattle.item.proofs.find_next_free_item_spot.Tie as tie
+
+find-free-requires : tie.Need-find-free-requires
+find-free-requires c κs = c .before .pre
+
+available-data-bytes-requires : tie.Need-available-data-bytes-requires
+available-data-bytes-requires c κs = c .before .before .pre .good
+
+enum-known-room : tie.Need-enum-known-room
+enum-known-room c = search needs
+
+returns : tie.Need-returns
+returns c =
+    let e = ap (available (c .before .before .before .before .before .before .before .before .args .g)) (sym (c .before .before .before .before .before .before .find-free .ensures .left)) ∙ sym (c .before .before .before .before .before .available-data-bytes .ensures) ∙ c .before .before .before .room .given .1 in
+    record { enough = serves-yes (c .before .before .before .before .before .before .before .before .args .g) _ _ e (c .before .before .before .before .before .before .before .before .args .data-length) (c .before .if1 .taken); ends = omega (arith, c .before .before .before .before .before .before .find-free .ensures .left, c .before .before .before .before .before .before .find-free .ensures .ends) }
+
+enum-told : tie.Need-enum-told
+enum-told c = search needs
+
+returns-2 : tie.Need-returns-2
+returns-2 c =
+    let e = ap (available (c .before .before .before .before .before .before .before .args .g)) (sym (c .before .before .before .before .before .find-free .ensures .left)) ∙ sym (c .before .before .before .before .available-data-bytes .ensures) ∙ c .before .before .room .given .1 in
+    serves-no (c .before .before .before .before .before .before .before .args .g) _ _ e (c .before .before .before .before .before .before .before .args .data-length) (c .if1 .left)
+
+returns-3 : tie.Need-returns-3
+returns-3 c =
+    let e = ap (available (c .before .before .before .before .before .args .g)) (sym (c .before .before .before .find-free .ensures .left)) ∙ sym (c .before .before .available-data-bytes .ensures) ∙ c .enum-told .given .1 in
+    serves-none (c .before .before .before .before .before .args .g) _ e (c .before .before .before .before .before .args .data-length)
+
+pub find-next-free-item-spot-spec : {M : Type 1} → statement M
+find-next-free-item-spot-spec =
+    tie.close
+    (tie.spec
+    find-free-requires
+    available-data-bytes-requires
+    enum-known-room
+    returns
+    enum-told
+    returns-2
+    returns-3)

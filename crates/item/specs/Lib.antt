@@ -1,0 +1,4 @@
+pub mod Places
+pub mod Headers
+pub mod Reading
+pub mod Scanning

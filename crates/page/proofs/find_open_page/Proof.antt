@@ -1,0 +1,59 @@
+-- `page::find_open_page` meets its contract. Each arm goes on with what the search for a Closed page answered. Assumes nothing.
+use borrow.Author.Needs.{needs}
+use native.Mathlib.Omega.{arith}
+use mathlib.Core.Path.{ap}
+use Rattle.paper.specs.Pages.{allPages, openFrom}
+use Rattle.page.specs.Searches.{soughtAs}
+use Rattle.page.proofs.Searching.{sees-failed, sees-page, sees-on, sees-or}
+use Rattle.page.proofs.find_open_page.Statement.{statement}
+use Rattle.page.proofs.find_open_page.Tie as tie
+
+find-first-page-requires : tie.Need-find-first-page-requires
+find-first-page-requires c κs = (c .pre, c .pre .some)
+
+enum-told : tie.Need-enum-told
+enum-told c = search needs
+
+enum-known-first-closed : tie.Need-enum-known-first-closed
+enum-known-first-closed c = search needs
+
+find-first-page-requires-2 : tie.Need-find-first-page-requires-2
+find-first-page-requires-2 c κs = (c .before .before .before .before .pre, omega (arith, c .before .before .before .find-first-page .ensures .within _ (ap soughtAs (c .before .first-closed .given .1))))
+
+found-or-requires : tie.Need-found-or-requires
+found-or-requires c κs = search needs
+
+enum-told-2 : tie.Need-enum-told-2
+enum-told-2 c = search needs
+
+returns : tie.Need-returns
+unfolding allPages
+returns c =
+    let e = ap soughtAs (c .enum-told .given .1) in
+    sees-on (openFrom (c .before .before .before .args .g)) (c .before .before .find-first-page .ensures) e sees-failed
+
+returns-2 : tie.Need-returns-2
+unfolding allPages
+returns-2 c =
+    let e = ap soughtAs (c .before .before .before .first-closed .given .1) in
+    sees-on (openFrom (c .before .before .before .before .before .before .args .g)) (c .before .before .before .before .before .find-first-page .ensures) e (rw (c .found-or .ensures) (sees-or (c .before .find-first-page2 .ensures) sees-failed))
+
+returns-3 : tie.Need-returns-3
+unfolding allPages
+returns-3 c =
+    let e = ap soughtAs (c .enum-told2 .given .1) in
+    sees-on (openFrom (c .before .before .before .args .g)) (c .before .before .find-first-page .ensures) e (sees-page 0 (c .before .before .before .pre .some))
+
+pub find-open-page-spec : {M : Type 1} → statement M
+find-open-page-spec =
+    tie.close
+    (tie.spec
+    find-first-page-requires
+    enum-told
+    enum-known-first-closed
+    find-first-page-requires-2
+    found-or-requires
+    enum-told-2
+    returns
+    returns-2
+    returns-3)

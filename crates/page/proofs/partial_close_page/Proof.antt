@@ -1,0 +1,44 @@
+-- `page::partial_close_page` meets its contract. Assumes nothing.
+use borrow.Author.Needs.{needs}
+use mathlib.Core.Path.{sym, _∙_}
+use Rattle.chip.proofs.Running.{did-none}
+use Rattle.page.proofs.partial_close_page.Statement.{statement}
+use Rattle.page.proofs.partial_close_page.Tie as tie
+
+get-page-state-requires : tie.Need-get-page-state-requires
+get-page-state-requires c κs = c .before .before .pre
+
+is-same-requires : tie.Need-is-same-requires
+is-same-requires c κs = search needs
+
+mark-start-requires : tie.Need-mark-start-requires
+mark-start-requires c κs = c .before .before .before .before .before .before .pre
+
+same-length : tie.Need-same-length
+same-length c = search needs
+
+returns : tie.Need-returns
+returns c =
+    let e = sym (c .before .before .before .before .before .is-same .ensures) ∙ c .before .before .before .before .if1 .taken in
+    rw (← c .before .before .before .before .before .before .get-page-state .ensures, e) (c .before .before .mark-start .ensures)
+
+same-length-2 : tie.Need-same-length-2
+same-length-2 c = search needs
+
+returns-2 : tie.Need-returns-2
+returns-2 c =
+    let a = c .before .before .before .before .before .args in
+    let e = sym (c .before .is-same .ensures) ∙ c .if1 .left in
+    rw (← c .before .before .get-page-state .ensures, e) (did-none (a .g) (a .b) (a .image .now))
+
+pub partial-close-page-spec : {M : Type 1} → statement M
+partial-close-page-spec =
+    tie.close
+    (tie.spec
+    get-page-state-requires
+    is-same-requires
+    mark-start-requires
+    same-length
+    returns
+    same-length-2
+    returns-2)
