@@ -50,7 +50,7 @@ class Goals:
         with open(os.path.join(folder, 'Lts.antt'), encoding='utf-8') as file:
             self.lts = file.read()
         with open(os.path.join(folder, 'Tie.antt'), encoding='utf-8') as file:
-            signature = re.search(r'pub spec :\n(.*?)Lts\.Closed', file.read(), re.S).group(1)
+            signature = re.search(r'pub spec :\s(.*?)Lts\.Closed', file.read(), re.S).group(1)
         # the names that a proof gives to its invariants and measures, and the types that tie has for them
         self.invariants = [(('Inv-' if kind == 'InvT' else 'μ-') + place, f'{kind}-{place}')
                            for kind, place in re.findall(r'\(\S+ : (InvT|MeasureT)-(\S+)\)', signature)]

@@ -19,7 +19,7 @@ lookAs g d header.Nothing = stop
 lookAs g d header.Bad = bad
 lookAs g d (header.Accepted h) = item (h .crc) (h .length) (part (headerSize g) (h .length) d)
 
--- read of the bytes d is what the paper's look finds there
+-- r is what the paper's look finds at the front of the bytes d
 abbrev pub HeaderIs : Geometry → List ℕ → MaybeHeader → Type 0
 HeaderIs g d r = lookAs g d r ≡ look g d
 
@@ -29,7 +29,7 @@ available g n =
     let end = roundDown (g .word) n in
     cond (ltb end (headerSize g)) room.Nothing (room.Bytes (end - headerSize g))
 
--- it as the paper's answer
+-- the same as an answer of the paper
 abbrev pub availableAs : Available → Answer
 availableAs (room.Bytes n) = number n
 availableAs room.Nothing = none

@@ -22,7 +22,7 @@ headAt g im a h = record { place = a; crc = h .crc; len = h .length; body = part
 abbrev pub itemOf : Geometry → Address → ItemHeader → Item
 itemOf g a h = record { header = h; address = a; size = roundUp (g .word) (h .length) }
 
--- what reading it copies to a buffer of n bytes: the rounded payload of a live header, where it fits
+-- what reading it copies to the front of a buffer of n bytes: the rounded payload of a live header, where it fits
 unfoldable pub copies : Geometry → ℕ → Head → List Event
 copies g n h =
     let size = roundUp (g .word) (h .len) in

@@ -37,27 +37,29 @@ pub record Reaches (g : Geometry) (im : List ℕ) (e a : ℕ) (x : Item) : Type 
   pub first : lives (walkFrom g im e a .heads)
       ≡ headAt g im (x .address .0) (x .header) ∷ lives (walkFrom g im e (after g (x .address .0) (x .header .length)) .heads)
 
+-- r is the first live header from address a on, or there is none
 abbrev pub NextIs : Geometry → List ℕ → ℕ → ℕ → Next → Type 0
 NextIs g im e a (next.Live x) = Reaches g im e a x
 NextIs g im e a next.End = lives (walkFrom g im e a .heads) ≡ []
 
 -- ---- the scan that never stops
 
--- the free spot of a walk in data that ends at e
+-- r is the free spot of the walk w, in data that ends at e
 pub record FreeIs (w : Walk) (e : ℕ) (r : Free) : Type 0 where
   pub left : r .left ≡ length (w .rest)
   pub ends : r .address .0 + r .left ≡ e
 
--- the free spot of a page
+-- r is the free spot of page p
 pub record PageFree (g : Geometry) (im : List ℕ) (p : ℕ) (r : Free) : Type 0 where
   pub is : FreeIs (pageWalk g im p) (dataEnd g p) r
   pub spot : r .address .0 ≡ freeSpot g im p
 
--- the free spot of a walk serves n bytes, and is a
+-- the free spot of the walk w is at address a, and serves n bytes
 pub record Served (g : Geometry) (w : Walk) (e n : ℕ) (a : Address) : Type 0 where
   pub enough : serves g (w .rest) n ≡ true
   pub ends : a .0 + length (w .rest) ≡ e
 
+-- r is the free spot where it serves n bytes
 abbrev pub SpotIs : Geometry → Walk → ℕ → ℕ → Spot → Type 0
 SpotIs g w e n (spot.At a) = Served g w e n a
 SpotIs g w e n spot.Nowhere = serves g (w .rest) n ≡ false

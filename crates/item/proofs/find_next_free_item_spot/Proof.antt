@@ -2,7 +2,6 @@
 use borrow.Author.Needs.{needs}
 use native.Mathlib.Omega.{arith}
 use mathlib.Core.Path.{sym, ap, _∙_}
-use Rattle.item.specs.declared.Available.the-variants as room
 use Rattle.item.specs.Headers.{available}
 use Rattle.item.proofs.Serving.{serves-yes, serves-no, serves-none}
 use Rattle.item.proofs.find_next_free_item_spot.Statement.{statement}

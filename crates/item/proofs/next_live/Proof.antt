@@ -4,7 +4,6 @@ use native.Mathlib.Omega.{arith}
 use mathlib.Core.Path.{_≡_, refl, sym, ap, _∙_, subst}
 use Prim.Native.Nat.{_-_, _≤_}
 use lib.ListN.{length}
-use Rattle.paper.specs.Slip.{item}
 use Rattle.item.specs.Places.{Inside}
 use Rattle.item.specs.Reading.{headAt}
 use Rattle.item.specs.Scanning.{walkFrom, lives, Reaches}

@@ -1,13 +1,13 @@
 -- `item::ItemHeader::decoded` meets its contract: its tests are those of the paper's `decode`, on the same bytes. Assumes nothing.
-use borrow.Author.Needs.{needs}
 use native.Mathlib.Omega.{arith}
 use mathlib.Core.Path.{sym, ap, ap₂, _∙_}
 use Prim.Native.Nat.{ℕ}
 use Rattle.paper.specs.Chip.{roundUp, headerSize, part}
-use Rattle.paper.specs.Slip.{numberOf, item}
+use Rattle.paper.specs.Slip.{numberOf}
 use Rattle.checksum.proofs.Answers.{length-is}
 use Rattle.item.proofs.Parts.{part-two, take-four}
 use Rattle.item.proofs.Decoding.{decode-unequal, decode-long, decode-item}
+use Rattle.paper.specs.Slip.{item}
 use Rattle.item.proofs.ItemHeader.decoded.Statement.{statement}
 use Rattle.item.proofs.ItemHeader.decoded.Tie as tie
 
@@ -21,7 +21,7 @@ part-crc16-end : tie.Need-part-crc16-end
 part-crc16-end c = omega arith
 
 crc16-requires : tie.Need-crc16-requires
-crc16-requires c κs = search needs
+crc16-requires c κs = tt
 
 shared-slice-read-le16 : tie.Need-shared-slice-read-le16
 shared-slice-read-le16 c = omega arith
@@ -30,7 +30,7 @@ shared-slice-read-le16-2 : tie.Need-shared-slice-read-le16-2
 shared-slice-read-le16-2 c = omega arith
 
 le16-requires : tie.Need-le16-requires
-le16-requires c κs = search needs
+le16-requires c κs = tt
 
 returns : tie.Need-returns
 returns c =
@@ -44,16 +44,16 @@ shared-slice-read-le16-4 : tie.Need-shared-slice-read-le16-4
 shared-slice-read-le16-4 c = omega arith
 
 le16-requires-2 : tie.Need-le16-requires-2
-le16-requires-2 c κs = search needs
+le16-requires-2 c κs = tt
 
 cast-round-up : tie.Need-cast-round-up
-cast-round-up c = search needs
+cast-round-up c = omega arith
 
 cast-round-up-2 : tie.Need-cast-round-up-2
-cast-round-up-2 c = search needs
+cast-round-up-2 c = omega arith
 
 round-up-requires : tie.Need-round-up-requires
-round-up-requires c κs = search needs
+round-up-requires c κs = omega arith
 
 header-size-requires : tie.Need-header-size-requires
 header-size-requires c κs = c .before .before .before .before .before .before .before .before .before .before .before .before .pre .0
@@ -82,7 +82,7 @@ shared-slice-read-le32-4 : tie.Need-shared-slice-read-le32-4
 shared-slice-read-le32-4 c = omega arith
 
 le32-requires : tie.Need-le32-requires
-le32-requires c κs = search needs
+le32-requires c κs = tt
 
 returns-3 : tie.Need-returns-3
 returns-3 c =

@@ -1,6 +1,5 @@
 -- `item::ItemHeader::encoded` meets its contract: its bytes are those of the paper's `encode`. Assumes nothing.
 use borrow.Author.Needs.{needs}
-use lib.ListN.{length}
 use Rattle.checksum.proofs.Answers.{length-is}
 use Rattle.item.proofs.Encoding.{encode-is}
 use Rattle.item.proofs.ItemHeader.encoded.Statement.{statement}

@@ -4,10 +4,8 @@ use native.Mathlib.Omega.{arith}
 use mathlib.Core.Path.{_≡_, refl, sym, ap, _∙_}
 use mathlib.Core.List.{List}
 use Prim.Native.Nat.{ℕ, _+_, _-_}
-use lib.ListN.{length}
 use Rattle.paper.specs.Checksum.{dataCrc}
 use Rattle.paper.specs.Chip.{put}
-use Rattle.paper.specs.Slip.{item}
 use Rattle.checksum.proofs.Answers.{data-is}
 use Rattle.item.specs.declared.Item.{Item}
 use Rattle.item.proofs.Parts.{length-part}
