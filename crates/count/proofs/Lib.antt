@@ -1,0 +1,4 @@
+pub mod Fits
+pub mod Spaces
+pub mod Retries
+pub mod Erases
