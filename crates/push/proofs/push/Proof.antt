@@ -1,0 +1,34 @@
+-- `push::push` meets its contract. A slip that is too big is refused, and any other goes to `push_inner`. Assumes nothing.
+use borrow.Author.Needs.{needs}
+use mathlib.Core.Path.{sym, _∙_}
+use Rattle.paper.specs.Calls.{push}
+use Rattle.chip.proofs.Binding.{ran-none}
+use Rattle.push.proofs.push.Statement.{statement}
+use Rattle.push.proofs.push.Tie as tie
+
+is-too-big-requires : tie.Need-is-too-big-requires
+is-too-big-requires c κs = c .before .before .pre .good
+
+returns : tie.Need-returns
+unfolding push
+returns c = rw (sym (c .before .is-too-big .ensures) ∙ c .if1 .taken) (ran-none (c .before .before .before .before .args .g) (c .before .before .before .before .args .b) (c .before .before .before .before .args .image .now) _)
+
+push-inner-requires : tie.Need-push-inner-requires
+push-inner-requires c κs = (c .before .before .before .before .before .pre, sym (c .before .before .is-too-big .ensures) ∙ c .before .if1 .left)
+
+same-length : tie.Need-same-length
+same-length c = search needs
+
+returns-2 : tie.Need-returns-2
+unfolding push
+returns-2 c = rw (sym (c .before .before .before .before .before .is-too-big .ensures) ∙ c .before .before .before .before .if1 .left) (c .before .before .push-inner .ensures)
+
+pub push-spec : {M : Type 1} → statement M
+push-spec =
+    tie.close
+    (tie.spec
+    is-too-big-requires
+    returns
+    push-inner-requires
+    same-length
+    returns-2)

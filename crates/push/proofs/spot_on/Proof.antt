@@ -1,0 +1,39 @@
+-- `push::spot_on` meets its contract. The run of the mark, and then that of the search on the image which it leaves. Assumes nothing.
+use borrow.Author.Needs.{needs}
+use Rattle.paper.specs.Calls.{findSpot, spotOn}
+use Rattle.chip.proofs.Binding.{and-cut, and-then}
+use Rattle.push.proofs.spot_on.Statement.{statement}
+use Rattle.push.proofs.spot_on.Tie as tie
+
+partial-close-page-requires : tie.Need-partial-close-page-requires
+partial-close-page-requires c κs = (c .before .before .pre .0, c .before .before .pre .1)
+
+same-length : tie.Need-same-length
+same-length c = search needs
+
+returns : tie.Need-returns
+unfolding spotOn
+returns c = record { ran = and-cut (findSpot (c .before .before .before .before .before .before .args .g) (c .before .before .before .before .before .before .args .n) (c .before .before .before .before .before .before .args .over) (c .before .before .before .before .before .before .args .current .0)) (c .before .before .before .partial-close-page .ensures) _ (c .if1 .taken); holds = λ z. tt }
+
+find-spot-requires : tie.Need-find-spot-requires
+find-spot-requires c κs = (rw (c .before .before .before .before .partial-close-page .kept .0) (c .before .before .before .before .before .before .before .pre .0), c .before .before .before .before .before .before .before .pre .1, c .before .before .before .before .before .before .before .pre .2)
+
+same-length-2 : tie.Need-same-length-2
+same-length-2 c = search needs
+
+returns-2 : tie.Need-returns-2
+unfolding spotOn
+returns-2 c =
+    let f = c .before .before .find-spot .ensures in
+    record { ran = and-then (findSpot (c .before .before .before .before .before .before .before .before .before .before .args .g) (c .before .before .before .before .before .before .before .before .before .before .args .n) (c .before .before .before .before .before .before .before .before .before .before .args .over) (c .before .before .before .before .before .before .before .before .before .before .args .current .0)) (c .before .before .before .before .before .before .before .partial-close-page .ensures) (c .before .before .before .before .if1 .left) (f .ran); holds = f .holds }
+
+pub spot-on-spec : {M : Type 1} → statement M
+spot-on-spec =
+    tie.close
+    (tie.spec
+    partial-close-page-requires
+    same-length
+    returns
+    find-spot-requires
+    same-length-2
+    returns-2)
