@@ -1,0 +1,50 @@
+-- Parts of a list, and of lists put together. Assumes nothing.
+use mathlib.Core.List.{List, [], _∷_, _++_}
+use mathlib.Core.Path.{_≡_, refl, ap, _∙_}
+use Prim.Native.Nat.{ℕ, zero, suc, _+_, _-_, _≤_}
+use native.Mathlib.Nat.{suc-sub-suc}
+use native.Mathlib.Omega.{arith}
+use lib.ListN.{length, take, drop, replicate, length-drop}
+use lib.Seq.{take-take, length-take-le}
+use Rattle.paper.specs.Chip.{part}
+
+-- a part that lies in the first m bytes
+pub part-take : (a n m : ℕ) (d : List ℕ) → a + n ≤ m → part a n (take m d) ≡ part a n d
+part-take zero n m d h = take-take n m d (omega arith)
+part-take (suc a) n zero d h = let z : ⊥ = omega arith in absurd z
+part-take (suc a) n (suc m) [] h = refl
+part-take (suc a) n (suc m) (b ∷ bs) h = part-take a n m bs (omega arith)
+
+pub take-append : (k : ℕ) (a b : List ℕ) → take k (a ++ b) ≡ take k a ++ take (k - length a) b
+take-append k [] b = let z : k - 0 ≡ k = omega arith in rw z (by k)
+  where
+    by : (k : ℕ) → take k b ≡ take k [] ++ take k b
+    by zero = refl
+    by (suc k) = refl
+take-append zero (x ∷ a) b = let z : 0 - suc (length a) ≡ 0 = omega arith in rw z
+take-append (suc k) (x ∷ a) b = let z : suc k - suc (length a) ≡ k - length a = omega arith in rw z (ap (λ (r : List ℕ). x ∷ r) (take-append k a b))
+
+pub drop-append : (k : ℕ) (a b : List ℕ) → drop k (a ++ b) ≡ drop k a ++ drop (k - length a) b
+drop-append k [] b = let z : k - 0 ≡ k = omega arith in rw z (by k)
+  where
+    by : (k : ℕ) → drop k b ≡ drop k [] ++ drop k b
+    by zero = refl
+    by (suc k) = refl
+drop-append zero (x ∷ a) b = let z : 0 - suc (length a) ≡ 0 = omega arith in rw z
+drop-append (suc k) (x ∷ a) b = rw suc-sub-suc (drop-append k a b)
+
+pub length-part : (a n : ℕ) (im : List ℕ) → a + n ≤ length im → length (part a n im) ≡ n
+length-part a n im h = length-take-le n (drop a im) (omega (arith, length-drop a im))
+
+pub drop-replicate : (i k v : ℕ) → drop i (replicate k v) ≡ replicate (k - i) v
+drop-replicate zero k v = let z : k - 0 ≡ k = omega arith in rw z
+drop-replicate (suc i) zero v = let z : 0 - suc i ≡ 0 = omega arith in rw z
+drop-replicate (suc i) (suc k) v = let z : suc k - suc i ≡ k - i = omega arith in rw z (drop-replicate i k v)
+
+pub take-replicate : (m k v : ℕ) → m ≤ k → take m (replicate k v) ≡ replicate m v
+take-replicate zero k v h = refl
+take-replicate (suc m) zero v h = let z : ⊥ = omega arith in absurd z
+take-replicate (suc m) (suc k) v h = ap (λ (r : List ℕ). v ∷ r) (take-replicate m k v (omega arith))
+
+pub part-replicate : (i m k v : ℕ) → i + m ≤ k → part i m (replicate k v) ≡ replicate m v
+part-replicate i m k v h = ap (λ (l : List ℕ). take m l) (drop-replicate i k v) ∙ take-replicate m (k - i) v (omega arith)

@@ -1,0 +1,37 @@
+-- What holds of every image of a history, beside demand 3. Assumes nothing.
+use mathlib.Core.Path.{_≡_}
+use mathlib.Core.List.{List, []}
+use Prim.Native.Nat.{ℕ, _≤_, _<_}
+use Rattle.paper.specs.declared.Geometry.{Geometry}
+use Rattle.paper.specs.declared.Refusal.{Refusal}
+use Rattle.paper.specs.declared.Refusal.the-variants as refusal
+use Rattle.paper.specs.declared.PageState.the-variants.{Corrupted}
+use Rattle.paper.specs.Chip.{Plan}
+use Rattle.paper.specs.Pages.{state, repair}
+use Rattle.paper.specs.Refusals.{refused}
+use Rattle.paper.specs.Waiting.{waiting}
+use Rattle.paper.specs.Fifo.{Call, pushes, fits, spaces, cutAfter, planOf, imageNext, listAfter, Ghost, Fair, Reached}
+
+pub record Sound (g : Geometry) (im : List ℕ) : Type 0 where
+  -- no page is Corrupted
+  pub pages : (p : ℕ) → p < g .pages → state g im p ≡ Corrupted → ⊥
+  -- so there is nothing to repair
+  pub repaired : repair g im ≡ []
+  -- push, peek, pop, space_left and erase_all do not answer Corrupted; find_max_fit does on a single page that is in use
+  pub answers : (c : Call) → (c ≡ fits → ⊥) → planOf g im c .answer ≡ refused refusal.Corrupted → ⊥
+  -- a push that is refused makes no store: of row 3, "repairs and the current page's start mark may be new", nothing is new
+  pub refusedPush : (slip : List ℕ) (r : Refusal) → planOf g im (pushes slip) .answer ≡ refused r → planOf g im (pushes slip) .events ≡ []
+  -- find_max_fit and space_left make no store
+  pub counts : (planOf g im fits .events ≡ []) × (planOf g im spaces .events ≡ [])
+
+abbrev pub AlwaysSound : Type 0
+AlwaysSound = (g : Geometry) (im : List ℕ) (gh : Ghost) → Reached g im gh → Sound g im
+
+-- the list changes at most once along a call's stores: it is the one before the call up to some store, and the one after it from there on
+pub record ChangesOnce (g : Geometry) (im : List ℕ) (c : Call) : Type 0 where
+  pub at : ℕ
+  pub before : (k : ℕ) → k < at → waiting g (imageNext g im c (cutAfter k)) ≡ waiting g im
+  pub after : (k : ℕ) → at ≤ k → waiting g (imageNext g im c (cutAfter k)) ≡ listAfter c (planOf g im c .answer) (waiting g im)
+
+abbrev pub AlwaysOnce : Type 0
+AlwaysOnce = (g : Geometry) (im : List ℕ) (gh : Ghost) → Reached g im gh → (c : Call) → ((k : ℕ) → Fair g im gh c (cutAfter k)) → ChangesOnce g im c
