@@ -1,0 +1,6 @@
+pub mod Answering
+pub mod ReadingItems
+pub mod Turning
+pub mod Leaving
+pub mod Beginning
+pub mod Popping

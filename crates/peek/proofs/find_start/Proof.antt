@@ -1,0 +1,56 @@
+-- `peek::find_start` meets its contract: one run, or two with a repair between them. Assumes nothing.
+use borrow.Author.Needs.{needs}
+use mathlib.Core.Path.{ap}
+use Rattle.page.specs.Searches.{chosenAs}
+use Rattle.peek.proofs.Beginning.{start-gives, start-stops, start-again}
+use Rattle.peek.proofs.find_start.Statement.{statement}
+use Rattle.peek.proofs.find_start.Tie as tie
+
+find-start-address-requires : tie.Need-find-start-address-requires
+find-start-address-requires c κs = c .before .before .pre
+
+enum-told : tie.Need-enum-told
+enum-told c = search needs
+
+enum-told-2 : tie.Need-enum-told-2
+enum-told-2 c = search needs
+
+try-general-repair-requires : tie.Need-try-general-repair-requires
+try-general-repair-requires c κs = c .before .before .before .before .before .before .pre
+
+same-length : tie.Need-same-length
+same-length c = search needs
+
+returns : tie.Need-returns
+returns c = record { shows = start-stops (c .before .before .before .before .before .before .before .before .before .before .args .g) (c .before .before .before .before .before .before .before .before .before .before .args .b) (c .before .before .before .before .before .before .before .before .before .before .args .image .now) (c .before .before .before .before .before .before .before .find-start-address .ensures .0) (ap chosenAs (c .before .before .before .before .before .enum-told2 .given .1)) (c .before .before .before .try-general-repair .ensures) _ (c .if1 .taken); within = c .before .before .before .before .before .before .before .find-start-address .ensures .1 }
+
+find-start-address-requires-2 : tie.Need-find-start-address-requires-2
+find-start-address-requires-2 c κs = rw (c .before .before .before .before .try-general-repair .kept .0) (c .before .before .before .before .before .before .before .before .before .before .before .pre)
+
+same-length-2 : tie.Need-same-length-2
+same-length-2 c = search needs
+
+returns-2 : tie.Need-returns-2
+returns-2 c = record { shows = start-gives (c .before .before .before .before .before .args .g) (c .before .before .before .before .before .args .b) (c .before .before .before .before .before .args .image .now) (c .before .before .find-start-address .ensures .0) _ (ap chosenAs (c .enum-told .given .1)); within = c .before .before .find-start-address .ensures .1 }
+
+same-length-3 : tie.Need-same-length-3
+same-length-3 c = search needs
+
+returns-3 : tie.Need-returns-3
+returns-3 c = record { shows = start-again (c .before .before .before .before .before .before .before .before .before .before .before .before .args .g) (c .before .before .before .before .before .before .before .before .before .before .before .before .args .b) (c .before .before .before .before .before .before .before .before .before .before .before .before .args .image .now) (c .before .before .before .before .before .before .before .before .before .find-start-address .ensures .0) (ap chosenAs (c .before .before .before .before .before .before .before .enum-told2 .given .1)) (c .before .before .before .before .before .try-general-repair .ensures) (c .before .before .if1 .left) (c .find-start-address2 .ensures .0); within = c .find-start-address2 .ensures .1 }
+
+pub find-start-spec : {M : Type 1} → statement M
+find-start-spec =
+    tie.close
+    (tie.spec
+    find-start-address-requires
+    enum-told
+    enum-told-2
+    try-general-repair-requires
+    same-length
+    returns
+    find-start-address-requires-2
+    same-length-2
+    returns-2
+    same-length-3
+    returns-3)

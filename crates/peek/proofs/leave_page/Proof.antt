@@ -1,0 +1,73 @@
+-- `peek::leave_page` meets its contract: the tests are those of the plan, in their order. Assumes nothing.
+use borrow.Author.Needs.{needs}
+use mathlib.Core.Path.{sym, _∙_}
+use mathlib.Core.Logic.{⊎-elim}
+use borrow.Author.Tests.{eqb-true, eqb-false}
+use Rattle.peek.proofs.Leaving.{leave-fails, leave-open, leave-round, leave-behind}
+use Rattle.peek.proofs.leave_page.Statement.{statement}
+use Rattle.peek.proofs.leave_page.Tie as tie
+
+next-page-requires : tie.Need-next-page-requires
+next-page-requires c κs = c .before .pre .1
+
+get-page-state-requires : tie.Need-get-page-state-requires
+get-page-state-requires c κs = (c .before .before .before .pre .0, c .before .next-page .ensures .1)
+
+is-same-requires : tie.Need-is-same-requires
+is-same-requires c κs = search needs
+
+same-length : tie.Need-same-length
+same-length c = search needs
+
+returns : tie.Need-returns
+returns c = record { shows = leave-fails (c .before .before .before .before .before .before .args .g) (c .before .before .before .before .before .before .args .b) (c .before .before .before .before .before .before .args .image .now) (c .before .before .before .before .before .before .args .oldest .0) (c .before .before .before .before .before .before .args .p .0) (c .before .before .before .before .next-page .ensures .0) (c .before .before .get-page-state .ensures) (sym (c .before .is-same .ensures) ∙ c .if1 .taken); within = c .before .before .before .before .before .before .pre .1 }
+
+is-same-requires-2 : tie.Need-is-same-requires-2
+is-same-requires-2 c κs = search needs
+
+same-length-2 : tie.Need-same-length-2
+same-length-2 c = search needs
+
+returns-2 : tie.Need-returns-2
+returns-2 c =
+    let a = c .before .before .before .before .before .before .before .before .args in
+    let n = c .before .before .before .before .before .before .next-page .ensures .0 in
+    let s = c .before .before .before .before .get-page-state .ensures in
+    let sound = sym (c .before .before .before .is-same .ensures) ∙ c .before .before .if1 .left in
+    let test = c .before .is-same2 .ensures in
+    record {
+      shows = ⊎-elim
+          (λ w. leave-open (a .g) (a .b) (a .image .now) (a .oldest .0) (a .p .0) n s sound (sym test ∙ w .taken))
+          (λ w. leave-round (a .g) (a .b) (a .image .now) (a .oldest .0) (a .p .0) n s sound (sym test ∙ w .0 .left) (eqb-true _ _ (w .3 .taken)))
+          (c .if2 .came);
+      within = tt;
+    }
+
+open-page-requires : tie.Need-open-page-requires
+open-page-requires c κs = search needs
+
+same-length-3 : tie.Need-same-length-3
+same-length-3 c = search needs
+
+returns-3 : tie.Need-returns-3
+returns-3 c =
+    let a = c .before .before .before .before .before .before .before .before .before .before .before .before .before .before .before .args in
+    let sound = sym (c .before .before .before .before .before .before .before .before .before .before .is-same .ensures) ∙ c .before .before .before .before .before .before .before .before .before .if1 .left in
+    let used = sym (c .before .before .before .before .before .before .before .before .is-same2 .ensures) ∙ c .before .before .before .before .before .before .before .if2 .left in
+    record { shows = leave-behind (a .g) (a .b) (a .image .now) (a .oldest .0) (a .p .0) (c .before .before .before .before .before .before .before .before .before .before .before .before .before .next-page .ensures .0) (c .before .before .before .before .before .before .before .before .before .before .before .get-page-state .ensures) sound used (eqb-false _ _ (c .before .before .before .before .if3 .left)) (c .before .before .open-page .ensures); within = c .before .before .before .before .before .before .before .before .before .before .before .before .before .next-page .ensures .1 }
+
+pub leave-page-spec : {M : Type 1} → statement M
+leave-page-spec =
+    tie.close
+    (tie.spec
+    next-page-requires
+    get-page-state-requires
+    is-same-requires
+    same-length
+    returns
+    is-same-requires-2
+    same-length-2
+    returns-2
+    open-page-requires
+    same-length-3
+    returns-3)

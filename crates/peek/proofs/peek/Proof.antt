@@ -1,0 +1,33 @@
+-- `peek::peek` meets its contract: what the search comes to is shown. Assumes nothing.
+use borrow.Author.Needs.{needs}
+use Rattle.paper.specs.Calls.{shownBy}
+use Rattle.paper.specs.Calls as calls
+use Rattle.peek.proofs.Answering.{showed-turned}
+use Rattle.peek.proofs.peek.Statement.{statement}
+use Rattle.peek.proofs.peek.Tie as tie
+
+search-requires : tie.Need-search-requires
+search-requires c κs = c .before .before .before .before .pre
+
+shown-by-requires : tie.Need-shown-by-requires
+shown-by-requires c κs = search needs
+
+same-length : tie.Need-same-length
+same-length c = search needs
+
+same-length-2 : tie.Need-same-length-2
+same-length-2 c = search needs
+
+returns : tie.Need-returns
+unfolding calls.peek
+returns c = rw (c .shown-by .ensures (c .before .before .before .before .before .before .before .before .before .before .before .args .g) (c .before .before .before .before .before .before .search .last .0)) (showed-turned shownBy (c .before .before .before .before .before .before .search .ensures .shows))
+
+pub peek-spec : {M : Type 1} → statement M
+peek-spec =
+    tie.close
+    (tie.spec
+    search-requires
+    shown-by-requires
+    same-length
+    same-length-2
+    returns)

@@ -1,0 +1,62 @@
+-- `peek::search` meets its contract: the second step begins where the first one ended. Assumes nothing.
+use borrow.Author.Needs.{needs}
+use mathlib.Core.Path.{ap}
+use Rattle.paper.specs.Calls.{searchOn, spoilt}
+use Rattle.paper.specs.Calls as calls
+use Rattle.chip.proofs.Binding.{showed-bind-cut, showed-bind-then}
+use Rattle.page.specs.Searches.{chosenAs}
+use Rattle.peek.proofs.Answering.{showed-kept}
+use Rattle.peek.proofs.search.Statement.{statement}
+use Rattle.peek.proofs.search.Tie as tie
+
+find-start-requires : tie.Need-find-start-requires
+find-start-requires c κs = c .before .before .before .pre
+
+same-length : tie.Need-same-length
+same-length c = search needs
+
+returns : tie.Need-returns
+unfolding calls.search
+returns c = record { shows = showed-bind-cut (searchOn (c .before .before .before .before .before .before .before .before .args .g) _) (c .before .before .before .before .find-start .ensures .shows _) _ (c .if1 .taken); within = tt }
+
+enum-told : tie.Need-enum-told
+enum-told c = search needs
+
+enum-known-start : tie.Need-enum-known-start
+enum-known-start c = search needs
+
+search-from-requires : tie.Need-search-from-requires
+search-from-requires c κs = ((rw (c .before .before .before .before .before .before .before .before .before .find-start .kept .0) (c .before .before .before .before .before .before .before .before .before .before .before .before .before .pre)), c .before .before .before .before .before .before .before .before .before .find-start .ensures .within _ (ap chosenAs (c .before .before .before .start .given .1)))
+
+same-length-2 : tie.Need-same-length-2
+same-length-2 c = search needs
+
+returns-2 : tie.Need-returns-2
+unfolding calls.search searchOn
+returns-2 c = record { shows = showed-bind-then (searchOn (c .before .before .before .before .before .before .before .before .before .before .args .g) _) (c .before .before .before .before .before .before .find-start .ensures .shows _) (c .before .before .if1 .left) (rw (c .enum-told .given .1) (showed-kept (c .before .before .before .before .before .before .before .before .before .before .args .g) _ _ _ spoilt (c .before .before .if1 .left))); within = tt }
+
+same-length-3 : tie.Need-same-length-3
+same-length-3 c = search needs
+
+same-length-4 : tie.Need-same-length-4
+same-length-4 c = search needs
+
+returns-3 : tie.Need-returns-3
+unfolding calls.search
+returns-3 c = record { shows = showed-bind-then (searchOn (c .before .before .before .before .before .before .before .before .before .before .before .before .before .before .before .before .before .before .args .g) _) (c .before .before .before .before .before .before .before .before .before .before .before .before .before .before .find-start .ensures .shows _) (c .before .before .before .before .before .before .before .before .before .before .if1 .left) (rw (c .before .before .before .before .before .before .before .before .start .given .1) (c .before .before .before .before .search-from .ensures .shows)); within = c .before .before .before .before .search-from .ensures .within }
+
+pub search-spec : {M : Type 1} → statement M
+search-spec =
+    tie.close
+    (tie.spec
+    find-start-requires
+    same-length
+    returns
+    enum-told
+    enum-known-start
+    search-from-requires
+    same-length-2
+    returns-2
+    same-length-3
+    same-length-4
+    returns-3)

@@ -1,0 +1,45 @@
+-- `peek::shown_by` meets its contract: one case for each outcome. Assumes nothing.
+use borrow.Author.Needs.{needs}
+use Rattle.peek.proofs.shown_by.Statement.{statement}
+use Rattle.peek.proofs.shown_by.Tie as tie
+
+enum-told : tie.Need-enum-told
+enum-told c = search needs
+
+enum-known-found : tie.Need-enum-known-found
+enum-known-found c = search needs
+
+enum-known-found-2 : tie.Need-enum-known-found-2
+enum-known-found-2 c = search needs
+
+cast-t6 : tie.Need-cast-t6
+cast-t6 c = search needs
+
+enum-told-2 : tie.Need-enum-told-2
+enum-told-2 c = search needs
+
+returns : tie.Need-returns
+returns c = λ g im. (rw (c .enum-told .given .1))
+
+returns-2 : tie.Need-returns-2
+returns-2 c = λ g im. (rw (c .before .found .given .1))
+
+returns-3 : tie.Need-returns-3
+returns-3 c = λ g im. (rw (c .before .before .found2 .given .1))
+
+returns-4 : tie.Need-returns-4
+returns-4 c = λ g im. (rw (c .enum-told2 .given .1))
+
+pub shown-by-spec : {M : Type 1} → statement M
+shown-by-spec =
+    tie.close
+    (tie.spec
+    enum-told
+    enum-known-found
+    enum-known-found-2
+    cast-t6
+    enum-told-2
+    returns
+    returns-2
+    returns-3
+    returns-4)

@@ -1,0 +1,96 @@
+-- What the cases of the code's answers stand for in the paper, and that what they name lies in the range. Assumes nothing.
+use mathlib.Core.Path.{_≡_}
+use mathlib.Core.List.{List}
+use Prim.Native.Nat.{ℕ, _<_}
+use Rattle.paper.specs.declared.Geometry.{Geometry}
+use Rattle.paper.specs.declared.Shown.{Shown}
+use Rattle.paper.specs.Chip.{Try, fails, gives}
+use Rattle.paper.specs.Scan.{Head}
+use Rattle.paper.specs.Refusals.{shownAs}
+use Rattle.paper.specs.Calls.{passed, long, onPage, afterPage, Outcome, nothing, short, this, spoilt, shownBy}
+use Rattle.paper.specs.Calls as calls
+use Rattle.item.specs.declared.Item.{Item}
+use Rattle.item.specs.Places.{Room}
+use Rattle.item.specs.Reading.{headAt}
+use Rattle.page.specs.declared.Chosen.{Chosen}
+use Rattle.page.specs.Searches.{chosenAs}
+use Rattle.peek.specs.declared.Stand.{Stand}
+use Rattle.peek.specs.declared.Stand.the-variants as stand
+use Rattle.peek.specs.declared.Met.{Met}
+use Rattle.peek.specs.declared.Met.the-variants as met
+use Rattle.peek.specs.declared.Found.{Found}
+use Rattle.peek.specs.declared.Found.the-variants as found
+use Rattle.peek.specs.declared.Tried.{Tried}
+use Rattle.peek.specs.declared.Tried.the-variants as tried
+use Rattle.peek.specs.declared.Turn.{Turn}
+use Rattle.peek.specs.declared.Turn.the-variants as turn
+use Rattle.peek.specs.Turns.{Going, goes, ends}
+
+-- ---- an item
+
+-- the header of item x, as the image im has it
+abbrev pub headOf : Geometry → List ℕ → Item → Head
+headOf g im x = headAt g im (x .address .0) (x .header)
+
+-- item x lies in an image of n bytes
+abbrev pub ItemIn : Geometry → ℕ → Item → Type 0
+ItemIn g n x = Room g n (x .address .0) (x .header .length)
+
+-- ---- what answers stand for
+
+abbrev pub standAs : Stand → calls.Stand
+standAs (stand.OnPage p) = onPage (p .0)
+standAs (stand.AfterPage p) = afterPage (p .0)
+
+abbrev pub metAs : Geometry → List ℕ → Met → calls.Met
+metAs g im met.Passed = passed
+metAs g im (met.TooSmall n) = long n
+metAs g im (met.Present x) = calls.met (headOf g im x)
+
+abbrev pub foundAs : Geometry → List ℕ → Found → Outcome
+foundAs g im found.Nothing = nothing
+foundAs g im (found.TooSmall n) = short n
+foundAs g im (found.Present x) = this (headOf g im x)
+foundAs g im found.Corrupted = spoilt
+
+abbrev pub triedAs : Geometry → List ℕ → Tried → Try calls.Stand Outcome
+triedAs g im (tried.Fails s) = fails (standAs s)
+triedAs g im (tried.Gives f) = gives (foundAs g im f)
+
+abbrev pub turnAs : Geometry → List ℕ → Turn → Going
+turnAs g im (turn.Goes s) = goes (standAs s)
+turnAs g im (turn.Ends t) = ends (triedAs g im t)
+
+-- ---- that what they name lies in the range, and in an image of n bytes
+
+abbrev pub StandIn : Geometry → Stand → Type 0
+StandIn g (stand.OnPage p) = p .0 < g .pages
+StandIn g (stand.AfterPage p) = p .0 < g .pages
+
+abbrev pub ChosenIn : Geometry → Chosen → Type 0
+ChosenIn g r = (p : ℕ) → chosenAs r ≡ gives p → p < g .pages
+
+abbrev pub MetIn : Geometry → ℕ → Met → Type 0
+MetIn g n met.Passed = Unit {0}
+MetIn g n (met.TooSmall k) = Unit {0}
+MetIn g n (met.Present x) = ItemIn g n x
+
+abbrev pub FoundIn : Geometry → ℕ → Found → Type 0
+FoundIn g n found.Nothing = Unit {0}
+FoundIn g n (found.TooSmall k) = Unit {0}
+FoundIn g n (found.Present x) = ItemIn g n x
+FoundIn g n found.Corrupted = Unit {0}
+
+abbrev pub TriedIn : Geometry → ℕ → Tried → Type 0
+TriedIn g n (tried.Fails s) = StandIn g s
+TriedIn g n (tried.Gives f) = FoundIn g n f
+
+abbrev pub TurnIn : Geometry → ℕ → Turn → Type 0
+TurnIn g n (turn.Goes s) = StandIn g s
+TurnIn g n (turn.Ends t) = TriedIn g n t
+
+-- ---- what is shown
+
+-- r is what is shown of what was found
+abbrev pub Shows : Found → Shown → Type 0
+Shows f r = (g : Geometry) (im : List ℕ) → shownAs r ≡ shownBy (foundAs g im f)

@@ -1,0 +1,431 @@
+// Peek and pop: the search for the first present item, and what the two calls make of it. Names and order are those of the Rust's
+// src/queue/mod.rs, where the search is the first step of an iterator.
+ghost use mathlib.Core.Path.{_≡_};
+ghost use Prim.Native.Nat.{_<_};
+ghost use lib.ListN.{length};
+ghost use Rattle.paper.specs.Chip.{gives};
+ghost use Rattle.paper.specs.Pages.{oldest};
+ghost use Rattle.paper.specs.Calls.{readHeads, nextStep, startStep, withRepair, searchOn, popped};
+ghost use Rattle.paper.specs.Calls as calls;
+ghost use Rattle.paper.specs.Refusals.{shownAs};
+ghost use Rattle.chip.specs.Within.{Within};
+ghost use Rattle.chip.specs.Run.{Did, Showed};
+ghost use Rattle.item.specs.Places.{Inside};
+ghost use Rattle.item.specs.Scanning.{walkFrom};
+ghost use Rattle.page.specs.Searches.{chosenAs};
+ghost use Rattle.peek.specs.Turns.{readTurn, leaveTurn, turnFrom};
+ghost use Rattle.peek.specs.Meanings.{standAs, metAs, foundAs, triedAs, turnAs, StandIn, ChosenIn, MetIn, FoundIn, TriedIn, TurnIn, Shows};
+ghost use Rattle.peek.specs.Searching.{Copies, Stores, ComesTo};
+use chip::Address;
+use chip::Budget;
+use chip::Page;
+use chip::Spent;
+use item::Item;
+use item::MaybeItem;
+use item::Next;
+use page::Chosen;
+use paper::Geometry;
+use paper::PageState;
+use paper::Refusal;
+use paper::Shown;
+
+// Where a search stands: at a page's first item, or leaving a page. This is the Rust's NextAddress.
+enum Stand {
+    OnPage(Page),
+    AfterPage(Page),
+}
+
+// What reading the items of a page comes to: none is present, one is too long for the buffer, or this one is present.
+enum Met {
+    Passed,
+    TooSmall(usize),
+    Present(Item),
+}
+
+// What a search comes to.
+enum Found {
+    Nothing,
+    TooSmall(usize),
+    Present(Item),
+    Corrupted,
+}
+
+// What a step of the search comes to: it failed with Corrupted, and where it stood; or it gives what it found.
+enum Tried {
+    Fails(Stand),
+    Gives(Found),
+}
+
+// What one turn of the search comes to: it goes on from another stand, or ends.
+enum Turn {
+    Goes(Stand),
+    Ends(Tried),
+}
+
+// What each part of a call comes to, and what it spent. Where it was cut, what stands beside `spent` has no say.
+struct Starting {
+    spent: Spent,
+    start: Chosen,
+}
+
+struct Turned {
+    spent: Spent,
+    turn: Turn,
+}
+
+struct Stepped {
+    spent: Spent,
+    tried: Tried,
+}
+
+struct Searched {
+    spent: Spent,
+    found: Found,
+}
+
+pub struct Showing {
+    pub spent: Spent,
+    pub answer: Shown,
+}
+
+// ---- the calls
+
+// Peek stores too: a repair, and erases of pages that it left because nothing in them is present.
+pub fn peek(image: &mut [u8], buffer: &mut [u8], b: Budget, g: Geometry) -> Showing
+    requires { ⌜ Within g (length (now image)) ⌝ }
+    ensures { λ r. ⌜ Showed g b (calls.peek g (now (image .entry)) (length (now (buffer .entry)))) (now (image .entry)) (now (image .exit)) (now (buffer .entry)) (now (buffer .exit)) (r .spent) (shownAs (r .answer)) ⌝ }
+{
+    let searched = search(image, buffer, b, g);
+    let spent = searched.spent;
+    let found = searched.found;
+    let answer = shown_by(found);
+    Showing { spent, answer }
+}
+
+pub fn pop(image: &mut [u8], buffer: &mut [u8], b: Budget, g: Geometry) -> Showing
+    requires { ⌜ Within g (length (now image)) ⌝ }
+    ensures { λ r. ⌜ Showed g b (calls.pop g (now (image .entry)) (length (now (buffer .entry)))) (now (image .entry)) (now (image .exit)) (now (buffer .entry)) (now (buffer .exit)) (r .spent) (shownAs (r .answer)) ⌝ }
+{
+    let searched = search(image, buffer, b, g);
+    let spent = searched.spent;
+    let found = searched.found;
+    let answer = shown_by(found);
+    if spent.cut {
+        return Showing { spent, answer };
+    }
+    let erased = pop_found(image, spent.budget, g, found);
+    Showing {
+        spent: erased,
+        answer,
+    }
+}
+
+fn shown_by(found: Found) -> Shown
+    ensures { λ r. ⌜ Shows found r ⌝ }
+{
+    match found {
+        Found::Nothing => Shown::Empty,
+        Found::TooSmall(size) => Shown::Refused(Refusal::BufferTooSmall(size)),
+        Found::Present(item) => Shown::Slip(item.header.length as usize),
+        Found::Corrupted => Shown::Refused(Refusal::Corrupted),
+    }
+}
+
+// QueueIteratorEntry::pop
+fn pop_found(image: &mut [u8], b: Budget, g: Geometry, found: Found) -> Spent
+    requires { ⌜ FoundIn g (length (now image)) found ⌝ }
+    ensures { λ r. ⌜ Did g b (popped g (foundAs g (now (image .entry)) found)) (now (image .entry)) (now (image .exit)) r ⌝ }
+{
+    let kept = Spent {
+        cut: false,
+        budget: b,
+    };
+    match found {
+        Found::Nothing => kept,
+        Found::TooSmall(_) => kept,
+        Found::Present(item) => {
+            let header = item.header;
+            let address = item.address;
+            header.erase_data(image, b, g, address)
+        }
+        Found::Corrupted => kept,
+    }
+}
+
+// ---- the search, which has two steps, each with its repair
+
+fn search(image: &mut [u8], buffer: &mut [u8], b: Budget, g: Geometry) -> Searched
+    requires { ⌜ Within g (length (now image)) ⌝ }
+    ensures { λ r. ⌜ ComesTo (foundAs g) (FoundIn g) g b (calls.search g (now (image .entry)) (length (now (buffer .entry)))) (now (image .entry)) (now (image .exit)) (now (buffer .entry)) (now (buffer .exit)) (r .spent) (r .found) ⌝ }
+{
+    let starting = find_start(image, b, g);
+    let spent = starting.spent;
+    if spent.cut {
+        return Searched {
+            spent,
+            found: Found::Nothing,
+        };
+    }
+    let start = starting.start;
+    match start {
+        Chosen::Corrupted => Searched {
+            spent,
+            found: Found::Corrupted,
+        },
+        Chosen::At(oldest) => search_from(image, buffer, spent.budget, g, oldest),
+    }
+}
+
+fn search_from(
+    image: &mut [u8],
+    buffer: &mut [u8],
+    b: Budget,
+    g: Geometry,
+    oldest: Page,
+) -> Searched
+    requires { ⌜ Within g (length (now image)) × (oldest .0 < g .pages) ⌝ }
+    ensures { λ r. ⌜ ComesTo (foundAs g) (FoundIn g) g b (searchOn g (length (now (buffer .entry))) (gives (oldest .0)) (now (image .entry))) (now (image .entry)) (now (image .exit)) (now (buffer .entry)) (now (buffer .exit)) (r .spent) (r .found) ⌝ }
+{
+    let stepped = next(image, buffer, b, g, oldest, Stand::OnPage(oldest));
+    let spent = stepped.spent;
+    let tried = stepped.tried;
+    match tried {
+        Tried::Fails(_) => Searched {
+            spent,
+            found: Found::Corrupted,
+        },
+        Tried::Gives(found) => Searched { spent, found },
+    }
+}
+
+// ---- finding the start
+
+// The Rust answers the address where the page's data begins, and its caller takes the page from that again: here it is the page.
+fn find_start_address(image: &[u8], g: Geometry) -> Chosen
+    requires { ⌜ Within g (length (now image)) ⌝ }
+    ensures { λ r. ⌜ (chosenAs r ≡ oldest g (now (image .entry))) × ChosenIn g r ⌝ }
+{
+    let table = page::page_states(image, g);
+    page::find_oldest_page(table, g)
+}
+
+// QueueIterator::new
+fn find_start(image: &mut [u8], b: Budget, g: Geometry) -> Starting
+    requires { ⌜ Within g (length (now image)) ⌝ }
+    ensures { λ r. ⌜ Stores (λ im. chosenAs) (λ n. ChosenIn g) g b (withRepair g (startStep g) tt (now (image .entry))) (now (image .entry)) (now (image .exit)) (r .spent) (r .start) ⌝ }
+{
+    let start = find_start_address(&image[..], g);
+    match start {
+        Chosen::At(_) => Starting {
+            spent: Spent {
+                cut: false,
+                budget: b,
+            },
+            start,
+        },
+        Chosen::Corrupted => {
+            let spent = page::try_general_repair(image, b, g);
+            if spent.cut {
+                return Starting { spent, start };
+            }
+            let again = find_start_address(&image[..], g);
+            Starting {
+                spent,
+                start: again,
+            }
+        }
+    }
+}
+
+// ---- finding the next item
+
+// QueueIterator::next: what failed is run once more from where it stood, on a repaired image.
+fn next(
+    image: &mut [u8],
+    buffer: &mut [u8],
+    b: Budget,
+    g: Geometry,
+    oldest: Page,
+    stand: Stand,
+) -> Stepped
+    requires { ⌜ Within g (length (now image)) × StandIn g stand ⌝ }
+    ensures { λ r. ⌜ ComesTo (triedAs g) (TriedIn g) g b (withRepair g (nextStep g (length (now (buffer .entry))) (oldest .0)) (standAs stand) (now (image .entry))) (now (image .entry)) (now (image .exit)) (now (buffer .entry)) (now (buffer .exit)) (r .spent) (r .tried) ⌝ }
+{
+    let stepped = next_inner(image, buffer, b, g, oldest, stand);
+    let spent = stepped.spent;
+    if spent.cut {
+        return stepped;
+    }
+    let tried = stepped.tried;
+    match tried {
+        Tried::Gives(_) => stepped,
+        Tried::Fails(stood) => {
+            let repaired = page::try_general_repair(image, spent.budget, g);
+            if repaired.cut {
+                return Stepped {
+                    spent: repaired,
+                    tried: Tried::Fails(stood),
+                };
+            }
+            next_inner(image, buffer, repaired.budget, g, oldest, stood)
+        }
+    }
+}
+
+// The Rust's loop has no bound. Two turns for each page are enough, since the search ends before it is back at the oldest page.
+fn next_inner(
+    image: &mut [u8],
+    buffer: &mut [u8],
+    b: Budget,
+    g: Geometry,
+    oldest: Page,
+    start: Stand,
+) -> Stepped
+    requires { ⌜ Within g (length (now image)) × StandIn g start ⌝ }
+    ensures { λ r. ⌜ ComesTo (triedAs g) (TriedIn g) g b (nextStep g (length (now (buffer .entry))) (oldest .0) (standAs start) (now (image .entry))) (now (image .entry)) (now (image .exit)) (now (buffer .entry)) (now (buffer .exit)) (r .spent) (r .tried) ⌝ }
+{
+    let mut budget = b;
+    let mut stand = start;
+    let mut turns = 2 * g.pages;
+    while 0 < turns {
+        let turned = take_turn(image, buffer, budget, g, oldest, stand);
+        let spent = turned.spent;
+        if spent.cut {
+            let tried = Tried::Gives(Found::Nothing);
+            return Stepped { spent, tried };
+        }
+        let turn = turned.turn;
+        match turn {
+            Turn::Ends(tried) => {
+                return Stepped { spent, tried };
+            }
+            Turn::Goes(further) => {
+                budget = spent.budget;
+                stand = further;
+                turns -= 1;
+            }
+        }
+    }
+    let spent = Spent { cut: false, budget };
+    let tried = Tried::Gives(Found::Nothing);
+    Stepped { spent, tried }
+}
+
+fn take_turn(
+    image: &mut [u8],
+    buffer: &mut [u8],
+    b: Budget,
+    g: Geometry,
+    oldest: Page,
+    stand: Stand,
+) -> Turned
+    requires { ⌜ Within g (length (now image)) × StandIn g stand ⌝ }
+    ensures { λ r. ⌜ ComesTo (turnAs g) (TurnIn g) g b (turnFrom g (length (now (buffer .entry))) (oldest .0) (standAs stand) (now (image .entry))) (now (image .entry)) (now (image .exit)) (now (buffer .entry)) (now (buffer .exit)) (r .spent) (r .turn) ⌝ }
+{
+    match stand {
+        Stand::OnPage(p) => {
+            let turn = read_page(&image[..], buffer, g, p);
+            Turned {
+                spent: Spent {
+                    cut: false,
+                    budget: b,
+                },
+                turn,
+            }
+        }
+        Stand::AfterPage(p) => leave_page(image, b, g, oldest, p),
+    }
+}
+
+// ---- on a page
+
+fn read_page(image: &[u8], buffer: &mut [u8], g: Geometry, p: Page) -> Turn
+    requires { ⌜ Within g (length (now image)) × (p .0 < g .pages) ⌝ }
+    ensures { λ r. ⌜ Copies (turnAs g) (TurnIn g) g (readTurn g (length (now (buffer .entry))) (p .0) (now (image .entry))) (now (image .entry)) (now (buffer .entry)) (now (buffer .exit)) r ⌝ }
+{
+    let start = chip::page_data_start_address(g, p);
+    let end = chip::page_data_end_address(g, p);
+    let met = read_items(image, buffer, g, start, end);
+    match met {
+        Met::Passed => Turn::Goes(Stand::AfterPage(p)),
+        Met::TooSmall(size) => Turn::Ends(Tried::Gives(Found::TooSmall(size))),
+        Met::Present(item) => Turn::Ends(Tried::Gives(Found::Present(item))),
+    }
+}
+
+// The live items from `start` on, in data that ends at `end`: the payload of each goes to the buffer's front, and torn ones are passed.
+fn read_items(image: &[u8], buffer: &mut [u8], g: Geometry, start: Address, end: Address) -> Met
+    requires { ⌜ Inside g (length (now image)) (start .0) (end .0) ⌝ }
+    ensures { λ r. ⌜ Copies (metAs g) (MetIn g) g (readHeads g (length (now (buffer .entry))) (walkFrom g (now (image .entry)) (end .0) (start .0) .heads) (now (image .entry))) (now (image .entry)) (now (buffer .entry)) (now (buffer .exit)) r ⌝ }
+{
+    let mut from = start;
+    loop {
+        let next = item::next_live(image, g, from, end);
+        match next {
+            Next::End => {
+                return Met::Passed;
+            }
+            Next::Live(item) => {
+                let header = item.header;
+                let address = item.address;
+                let read = header.read_item(image, buffer, g, address);
+                match read {
+                    MaybeItem::Present(_) => {
+                        return Met::Present(item);
+                    }
+                    MaybeItem::TooSmall(size) => {
+                        return Met::TooSmall(size);
+                    }
+                    MaybeItem::Erased(_) => {
+                        return logic_bug();
+                    }
+                    MaybeItem::Corrupted(_) => {
+                        from = header.next_item_address(g, address);
+                    }
+                }
+            }
+        }
+    }
+}
+
+// The Rust answers LogicBug where the scan that stops at live headers stopped at a popped one. It never does, and that is proved: no call
+// that could be reached meets this `requires`.
+fn logic_bug() -> Met
+    requires { ⌜ ⊥ ⌝ }
+    ensures { λ _. ⌜ ⊥ ⌝ }
+{
+    Met::Passed
+}
+
+// ---- leaving a page
+
+// Nothing in page p is present. Where the search goes on behind it, p is erased at once, torn items and all, so that no later search has to
+// go through it again.
+fn leave_page(image: &mut [u8], b: Budget, g: Geometry, oldest: Page, p: Page) -> Turned
+    requires { ⌜ Within g (length (now image)) × (p .0 < g .pages) ⌝ }
+    ensures { λ r. ⌜ Stores (turnAs g) (TurnIn g) g b (leaveTurn g (oldest .0) (p .0) (now (image .entry))) (now (image .entry)) (now (image .exit)) (r .spent) (r .turn) ⌝ }
+{
+    let kept = Spent {
+        cut: false,
+        budget: b,
+    };
+    let next_page = page::next_page(g, p);
+    let state = page::get_page_state(&image[..], g, next_page);
+    if page::is_same(state, PageState::Corrupted) {
+        return Turned {
+            spent: kept,
+            turn: Turn::Ends(Tried::Fails(Stand::AfterPage(p))),
+        };
+    }
+    if page::is_same(state, PageState::Open) || next_page.0 == oldest.0 {
+        return Turned {
+            spent: kept,
+            turn: Turn::Ends(Tried::Gives(Found::Nothing)),
+        };
+    }
+    let erased = page::open_page(image, b, g, p);
+    Turned {
+        spent: erased,
+        turn: Turn::Goes(Stand::OnPage(next_page)),
+    }
+}
