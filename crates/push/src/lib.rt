@@ -40,7 +40,7 @@ enum Tried {
     At(Address),
 }
 
-// The same of the search.
+// The same for the search.
 struct Trying {
     spent: Spent,
     answer: Tried,
@@ -78,8 +78,8 @@ fn is_too_big(g: Geometry, n: usize) -> bool
     chip::calculate_page_size(g) < chip::header_size(g) + n
 }
 
-// The Rust runs the whole of its push_inner once more after a repair. Only the search for a spot can fail with Corrupted, so here the
-// repair is part of the search, and nothing is written twice.
+// The Rust runs the whole of its push_inner once more after a repair. Only the search for a spot fails with Corrupted, so here the repair
+// is part of the search.
 fn push_inner(image: &mut [u8], b: Budget, g: Geometry, slip: &[u8], over: bool) -> Pushing
     requires { ⌜ Within g (length (now image)) × (tooBig g (length (now slip)) ≡ false) ⌝ }
     ensures { λ r. ⌜ Ran g b (bind g (now (image .entry)) (spotFor g (now (image .entry)) (length (now (slip .entry))) over) (pushAt g (now (slip .entry)))) (now (image .entry)) (now (image .exit)) (r .spent) (pushedAs (r .answer)) ⌝ }
@@ -249,7 +249,7 @@ fn start_page(image: &mut [u8], b: Budget, g: Geometry, current: Page, following
     page::mark_start(image, r.budget, g, following)
 }
 
-// A page that is full, and by the ring's order the oldest, is used again.
+// A Closed page behind the current one is the oldest, and the sole page is oldest and youngest: it is used again.
 fn take_page(
     image: &mut [u8],
     b: Budget,
