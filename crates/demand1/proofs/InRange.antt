@@ -1,0 +1,147 @@
+-- Every event of every call lies in the range; bytes outside it never change and have no say. Assumes nothing.
+use mathlib.Core.Path.{_≡_, refl, sym, ap, _∙_, subst}
+use mathlib.Core.Bool.{Bool, true, false, cond}
+use mathlib.Core.List.{List, []}
+use Prim.Native.Nat.{ℕ, _-_, _*_}
+use native.Mathlib.Omega.{arith}
+use lib.Dec.{ltb}
+use lib.ListN.{length}
+use Rattle.paper.specs.declared.Shape.{Shape}
+use Rattle.paper.specs.declared.Checked.{Checked}
+use Rattle.paper.specs.declared.Checked.the-variants.{Accepted, Refused}
+use Rattle.paper.specs.declared.Geometry.{Geometry}
+use Rattle.paper.specs.declared.Refusal.the-variants as refusal
+use Rattle.paper.specs.Chip.{Event, storeCount, before, imageAfter, bufferAfter, Plan, plan}
+use Rattle.paper.specs.Refusals.{geometryOf, check, Answer, refused}
+use Rattle.paper.specs.Calls.{Request, pushing, peeking, popping, fitting, measuring, erasing, planned, call, planFor, requested, limited}
+use Rattle.demand1.specs.Range.{Lies, Each, Outside, Agree, afterLimit, bufferLimit, InRange}
+use Rattle.demand1.proofs.Accepted.{Sound, accepted-is, accepted-sound, starts-at, ends-at}
+use Rattle.demand1.proofs.Lists.{each-before}
+use Rattle.demand1.proofs.Lying.{Alike, range-end, alike-after, alike-self, frame-after, alike-buffer}
+use Rattle.demand1.proofs.Does.{Any}
+use Rattle.demand1.proofs.Both.{Both}
+use Rattle.demand1.proofs.PushLies.{both-push}
+use Rattle.demand1.proofs.SearchLies.{both-peek, both-pop}
+use Rattle.demand1.proofs.CountLies.{both-fit, both-space, both-erase}
+
+both-for : {g : Geometry} {n : ℕ} → Sound g n → (c : Request) (im jm : List ℕ) → Alike g n im jm → Both g Any (planFor g im c) (planFor g jm c)
+unfolding planFor
+both-for S (pushing slip over) im jm L = both-push S slip over im jm L
+both-for S (peeking b) im jm L = both-peek S b im jm L
+both-for S (popping b) im jm L = both-pop S b im jm L
+both-for S fitting im jm L = both-fit S im jm L
+both-for S measuring im jm L = both-space S im jm L
+both-for S erasing im jm L = both-erase S
+
+events-lie : (g : Geometry) (im : List ℕ) (s : Shape) → check (length im) s ≡ Accepted g → (c : Request) → Each (Lies g) (planFor g im c .events)
+events-lie g im s e c = let S = accepted-sound (length im) s g e in both-for S c im im (alike-self S im refl) .lies
+
+-- ---- outside
+
+-- events that a shape's range holds
+Held : Shape → List ℕ → List Event → Type 0
+Held s im es = Outside s im (imageAfter (geometryOf s) es im)
+
+module _ (s : Shape) (im : List ℕ) where
+  none-held : Held s im []
+  unfolding imageAfter Held
+  none-held = record { size = refl; below = refl; above = refl }
+
+  lie-held : (g : Geometry) → check (length im) s ≡ Accepted g → (es : List Event) → Each (Lies g) es → Held s im es
+  unfolding Held
+  lie-held g e es h =
+      let F = frame-after (accepted-sound (length im) s g e) es im refl h in
+      rw (accepted-is (length im) s g e) (record {
+        size = F .size;
+        below = rw (← starts-at (length im) s g e) (F .below);
+        above = F .above (s .end) (omega (arith, ends-at (length im) s g e));
+      })
+
+  -- what a call may do in place of its plan: nothing but the plan's own events
+  module _ (c : Request) (some : Plan Answer → List Event) (less : (P : Event → Type 0) (p : Plan Answer) → Each P (p .events) → Each P (some p)) (none : (a : Answer) → some (plan [] a) ≡ []) where
+    held : Held s im (some (requested s im c))
+    unfolding requested call
+    held = on (check (length im) s) refl
+      where
+        on : (t : Checked) → check (length im) s ≡ t → Held s im (some (planned t (λ g. planFor g im c)))
+        on (Accepted g) e = lie-held g e (some (planFor g im c)) (less (Lies g) (planFor g im c) (events-lie g im s e c))
+        on (Refused r) e = rw (none (refused r)) none-held
+
+-- a limited plan makes no event but the plan's
+limited-less : (k : ℕ) (P : Event → Type 0) (p : Plan Answer) → Each P (p .events) → Each P (limited k p .events)
+unfolding limited
+limited-less k P p h = by (ltb k (storeCount (p .events)))
+  where
+    by : (t : Bool) → Each P (cond t (plan (before k (p .events)) (refused refusal.Cut)) p .events)
+    by true = each-before P k (p .events) h
+    by false = h
+
+limited-none : (k : ℕ) (a : Answer) → limited k (plan [] a) .events ≡ []
+unfolding limited before
+limited-none k a = by (ltb k (storeCount []))
+  where
+    by : (t : Bool) → cond t (plan (before k []) (refused refusal.Cut)) (plan [] a) .events ≡ []
+    by true = refl
+    by false = refl
+
+-- ---- no say
+
+module _ (n : ℕ) (s : Shape) (g : Geometry) (q : check n s ≡ Accepted g) where
+  size-is : s .end - s .start ≡ g .pages * g .page
+  size-is = omega (arith, range-end g, ends-at n s g q, starts-at n s g q)
+
+  agree-alike : (im jm : List ℕ) → length im ≡ n → Agree s im jm → Alike g n im jm
+  agree-alike im jm l A = record { long = l; also = sym (A .0) ∙ l; same = rw (starts-at n s g q, ← size-is) (A .1) }
+
+  alike-agree : (im jm : List ℕ) → Alike g n im jm → Agree s im jm
+  alike-agree im jm L = (L .long ∙ sym (L .also), rw (size-is, ← starts-at n s g q) (L .same))
+
+module _ (s : Shape) (im jm : List ℕ) (A : Agree s im jm) (c : Request) where
+  no-say : requested s im c ≡ requested s jm c
+  unfolding requested call
+  no-say = on (check (length im) s) refl ∙ ap (λ (x : ℕ). planned (check x s) (λ g. planFor g jm c)) (A .0)
+    where
+      on : (t : Checked) → check (length im) s ≡ t → planned t (λ g. planFor g im c) ≡ planned t (λ g. planFor g jm c)
+      on (Refused r) q = refl
+      on (Accepted g) q = both-for (accepted-sound (length im) s g q) c im jm (agree-alike (length im) s g q im jm refl A) .one
+
+  -- what k stores leave
+  module _ (k : ℕ) where
+    -- of events that are the plan's, or none
+    same-image : Agree s (afterLimit k s im c) (imageAfter (geometryOf s) (limited k (requested s im c) .events) jm)
+    unfolding requested call imageAfter
+    same-image = on (check (length im) s) refl
+      where
+        on : (t : Checked) → check (length im) s ≡ t → (let es = limited k (planned t (λ g. planFor g im c)) .events in
+            Agree s (imageAfter (geometryOf s) es im) (imageAfter (geometryOf s) es jm))
+        on (Refused r) q = rw (limited-none k (refused r)) A
+        on (Accepted g) q =
+            let S = accepted-sound (length im) s g q in
+            let h = limited-less k (Lies g) (planFor g im c) (events-lie g im s q c) in
+            rw (accepted-is (length im) s g q)
+            (alike-agree (length im) s g q _ _ (alike-after S (limited k (planFor g im c) .events) (agree-alike (length im) s g q im jm refl A) h))
+
+    same-buffer : (buf : List ℕ) → bufferLimit k s im c buf ≡ bufferAfter (geometryOf s) (limited k (requested s im c) .events) jm buf
+    unfolding requested call bufferAfter
+    same-buffer buf = on (check (length im) s) refl
+      where
+        on : (t : Checked) → check (length im) s ≡ t → (let es = limited k (planned t (λ g. planFor g im c)) .events in
+            bufferAfter (geometryOf s) es im buf ≡ bufferAfter (geometryOf s) es jm buf)
+        on (Refused r) q = rw (limited-none k (refused r))
+        on (Accepted g) q =
+            let S = accepted-sound (length im) s g q in
+            let h = limited-less k (Lies g) (planFor g im c) (events-lie g im s q c) in
+            rw (accepted-is (length im) s g q) (alike-buffer S (limited k (planFor g im c) .events) (agree-alike (length im) s g q im jm refl A) h buf)
+
+pub in-range : InRange
+unfolding Held
+in-range = record {
+  events-lie = events-lie;
+  outside-whole = λ s im c. held s im c (λ p. p .events) (λ P p h. h) (λ a. refl);
+  outside-limited = λ k s im c. held s im c (λ p. limited k p .events) (limited-less k) (limited-none k);
+  no-say = no-say;
+  no-say-image = λ k s im jm A c.
+      subst (λ (p : Plan Answer). Agree s (afterLimit k s im c) (imageAfter (geometryOf s) (limited k p .events) jm)) (no-say s im jm A c) (same-image s im jm A c k);
+  no-say-buffer = λ k s im jm A c buf.
+      same-buffer s im jm A c k buf ∙ ap (λ (p : Plan Answer). bufferAfter (geometryOf s) (limited k p .events) jm buf) (no-say s im jm A c);
+}

@@ -1,0 +1,128 @@
+-- A peek or pop copies no more than the buffer takes, and what it shows fits the buffer. Assumes nothing.
+use mathlib.Core.Path.{_≡_, refl, subst}
+use mathlib.Core.Bool.{true, not, _||_}
+use mathlib.Core.List.{List, [], _∷_, List·Memᴰ·head, List·Memᴰ·tail}
+use Prim.Native.Nat.{ℕ, zero, suc, _+_, _*_, _≤_}
+use native.Mathlib.Omega.{arith}
+use borrow.Author.Tests.{ltb-false, not-false}
+use lib.Dec.{eqb, ltb}
+use Rattle.paper.specs.declared.Geometry.{Geometry}
+use Rattle.paper.specs.declared.PageState.the-variants.{Open, Corrupted}
+use Rattle.paper.specs.Chip.{roundUp, headerSize, Event, store, erase, copy, erasePage, plan, Try, fails, gives, settled}
+use Rattle.paper.specs.Slip.{encode}
+use Rattle.paper.specs.Scan.{Head, pageWalk, live, present}
+use Rattle.paper.specs.Pages.{state, same, next, oldest}
+use Rattle.paper.specs.Refusals.{Answer, shown}
+use Rattle.paper.specs.Calls.{Met, passed, long, met, readHeads, Stand, onPage, afterPage, Outcome, nothing, short, this, spoilt, onMet, readPage, leavePage, nextItem, nextStep, startStep, searchOn, search, shownBy, popped, peek, pop}
+use Rattle.demand1.specs.Range.{Each}
+use Rattle.demand1.specs.Buffers.{Copies, ReadOf}
+use Rattle.demand1.proofs.Lists.{each-weaker, each-any, never}
+use Rattle.demand1.proofs.Items.{Whole, page-whole}
+use Rattle.demand1.proofs.Does.{Tried, Any, writes-store, Does, does-cond, does-bind, does-steps}
+
+-- a header that was met is one of those read, live, and the buffer takes it
+abbrev MetOf : Geometry → ℕ → (Head → Type 0) → Met → Type 0
+MetOf g n Q passed = Unit {0}
+MetOf g n Q (long k) = Unit {0}
+MetOf g n Q (met h) = Q h × (live h ≡ true) × (roundUp (g .word) (h .len) ≤ n)
+
+abbrev OutFits : ℕ → Outcome → Type 0
+OutFits n nothing = Unit {0}
+OutFits n (short k) = Unit {0}
+OutFits n (this h) = h .len ≤ n
+OutFits n spoilt = Unit {0}
+
+module _ (g : Geometry) (n : ℕ) where
+  heads-do : (Q : Head → Type 0) (hs : List Head) → Each Q hs → (im : List ℕ) → Does (Copies n) (MetOf g n Q) (readHeads g n hs im)
+  unfolding readHeads
+  heads-do Q [] e im = record { each = tt; answers = tt }
+  heads-do Q (h ∷ hs) e im =
+      let size : ℕ = roundUp (g .word) (h .len) in
+      does-cond (not (live h)) (λ t. heads-do Q hs (e .1) im)
+      (λ v. does-cond (ltb n size) (λ t. record { each = tt; answers = tt })
+      (λ s. let k : size ≤ n = ltb-false n size s in
+      does-cond (present h) (λ t. record { each = (k, tt); answers = (e .0, not-false (live h) v, k) })
+      (λ t. does-bind g {A = Unit {0}} Any im (λ u. readHeads g n hs) (record { each = (k, tt); answers = tt }) (λ u x. heads-do Q hs (e .1)))))
+
+  -- what is read is one of the headers, and live
+  read-of : (h : Head) (hs : List Head) (e : Event) → ReadOf g hs e → ReadOf g (h ∷ hs) e
+  read-of h hs (store a word) r = r
+  read-of h hs (erase p) r = r
+  read-of h hs (copy a m) r = (r .0, List·Memᴰ·tail (r .1), r .2, r .3, r .4)
+
+  pub heads-read : (hs : List Head) (im : List ℕ) → Does (ReadOf g hs) Any (readHeads g n hs im)
+  unfolding readHeads
+  heads-read [] im = record { each = tt; answers = tt }
+  heads-read (h ∷ hs) im =
+      let size : ℕ = roundUp (g .word) (h .len) in
+      let on : (i : List ℕ) → Does (ReadOf g (h ∷ hs)) Any (readHeads g n hs i) =
+      λ i. record { each = each-weaker (ReadOf g hs) (ReadOf g (h ∷ hs)) (read-of h hs) (readHeads g n hs i .events) (heads-read hs i .each); answers = tt } in
+      does-cond (not (live h)) (λ t. on im)
+      (λ v. does-cond (ltb n size) (λ t. record { each = tt; answers = tt })
+      (λ s. let read : ReadOf g (h ∷ hs) (copy (h .place + headerSize g) size) = (h, List·Memᴰ·head refl, not-false (live h) v, refl, refl) in
+      does-cond (present h) (λ t. record { each = (read, tt); answers = tt })
+      (λ t. does-bind g {A = Unit {0}} Any im (λ u. readHeads g n hs) (record { each = (read, tt); answers = tt }) (λ u x. on))))
+
+  abbrev NextFits : Try Stand Outcome → Type 0
+  NextFits = Tried Any (OutFits n)
+
+  next-does : (old k : ℕ) (s : Stand) (im : List ℕ) → Does (Copies n) NextFits (nextItem g n old k s im)
+  unfolding nextItem readPage onMet leavePage erasePage
+  next-does old zero s im = record { each = tt; answers = tt }
+  next-does old (suc k) (onPage p) im =
+      does-bind g (MetOf g n (Whole g im)) im (onMet (nextItem g n old k (afterPage p))) (heads-do (Whole g im) (pageWalk g im p .heads) (page-whole g im p) im) (on (next-does old k (afterPage p)))
+    where
+      on : ((im : List ℕ) → Does (Copies n) NextFits (nextItem g n old k (afterPage p) im))
+          → (m : Met) → MetOf g n (Whole g im) m → (im : List ℕ) → Does (Copies n) NextFits (onMet (nextItem g n old k (afterPage p)) m im)
+      on f passed v im = f im
+      on f (long j) v im = record { each = tt; answers = tt }
+      on f (met h) v im = record { each = tt; answers = omega (arith, v .0, v .2) }
+  next-does old (suc k) (afterPage p) im =
+      does-cond (same (state g im (next g p)) Corrupted) (λ t. record { each = tt; answers = tt })
+      (λ t. does-cond (same (state g im (next g p)) Open || eqb (next g p) old) (λ t. record { each = tt; answers = tt })
+      (λ t. does-bind g {A = Unit {0}} Any im (λ u. nextItem g n old k (onPage (next g p))) (record { each = (tt, tt); answers = tt }) (λ u v. next-does old k (onPage (next g p)))))
+
+  search-does : (im : List ℕ) → Does (Copies n) (OutFits n) (search g im n)
+  unfolding search startStep searchOn nextStep
+  search-does im =
+      does-bind g (Tried Any Any) im (searchOn g n) (does-steps g Any Any (startStep g) (λ p. tt) (λ u v i. record { each = tt; answers = any (oldest g i) }) tt tt im) on
+    where
+      any : (t : Try Unit ℕ) → Tried Any Any t
+      any (fails u) = tt
+      any (gives p) = tt
+
+      end : (t : Try Stand Outcome) → NextFits t → (im : List ℕ) → Does (Copies n) (OutFits n) (plan [] (settled spoilt t))
+      end (fails s) v im = record { each = tt; answers = tt }
+      end (gives o) v im = record { each = tt; answers = v }
+
+      on : (t : Try Unit ℕ) → Tried Any Any t → (im : List ℕ) → Does (Copies n) (OutFits n) (searchOn g n t im)
+      on (fails u) v im = record { each = tt; answers = tt }
+      on (gives old) v im =
+          does-bind g NextFits im (λ t im₁. plan [] (settled spoilt t)) (does-steps g Any (OutFits n) (nextStep g n old) (λ p. tt) (λ s v. next-does old (2 * g .pages) s) (onPage old) tt im) end
+
+  -- what is shown fits the buffer
+  abbrev Shows : Answer → Type 0
+  Shows a = (k : ℕ) → a ≡ shown k → k ≤ n
+
+  shows : (o : Outcome) → OutFits n o → Shows (shownBy o)
+  shows nothing v k e = never (cc)
+  shows (short j) v k e = never (cc)
+  shows (this h) v k e = let z : h .len ≡ k = cc in omega arith
+  shows spoilt v k e = never (cc)
+
+  pub peek-does : (im : List ℕ) → Does (Copies n) Shows (peek g im n)
+  unfolding peek
+  peek-does im = does-bind g (OutFits n) im (λ o im₁. plan [] (shownBy o)) (search-does im) (λ o v im. record { each = tt; answers = shows o v })
+
+  pub pop-does : (im : List ℕ) → Does (Copies n) Shows (pop g im n)
+  unfolding pop
+  pop-does im = does-bind g (OutFits n) im (λ o im₁. plan (popped g o) (shownBy o)) (search-does im) (λ o v im. record { each = by o; answers = shows o v })
+    where
+      by : (o : Outcome) → Each (Copies n) (popped g o)
+      by nothing = tt
+      by (short k) = tt
+      by (this h) = writes-store g (Copies n) (λ a word. tt) (h .place) (encode g 0 (h .len))
+      by spoilt = tt
+
+  pub met-live : (hs : List Head) (im : List ℕ) (h : Head) → readHeads g n hs im .answer ≡ met h → live h ≡ true
+  met-live hs im h e = subst (MetOf g n Any) e (heads-do Any hs (each-any hs) im .answers) .1

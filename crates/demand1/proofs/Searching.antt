@@ -1,0 +1,91 @@
+-- A search from the oldest page goes its way to the end: stuck before a Corrupted page, it ends there after the repair. Assumes nothing.
+use mathlib.Core.Path.{_≡_, refl, sym, ap, _∙_, subst}
+use mathlib.Core.Bool.{true}
+use mathlib.Core.List.{List, [], _++_}
+use mathlib.Core.Logic.{_⊎_, inl, inr}
+use Prim.Native.Nat.{ℕ, suc, _-_, _*_, _<_}
+use native.Mathlib.Omega.{arith}
+use lib.ListN.{length}
+use Rattle.paper.specs.declared.Geometry.{Geometry}
+use Rattle.paper.specs.declared.PageState.{PageState}
+use Rattle.paper.specs.declared.PageState.the-variants.{Open, Corrupted}
+use Rattle.paper.specs.Chip.{pageBytes, Event, imageAfter, Plan, plan, bind, Try, gives, settled}
+use Rattle.paper.specs.Pages.{state, same, next, around, from, oldest, repair}
+use Rattle.paper.specs.Calls.{long, Stand, onPage, afterPage, Outcome, nothing, spoilt, leavePage, nextItem, nextStep, withRepair, searchOn}
+use Rattle.page.proofs.Rings.{next-in}
+use Rattle.demand1.specs.Range.{Each}
+use Rattle.demand1.specs.Rows.{repaired, onTheWay}
+use Rattle.demand1.proofs.Accepted.{Sound}
+use Rattle.demand1.proofs.Lists.{each-append, never}
+use Rattle.demand1.proofs.Pages.{state-same}
+use Rattle.demand1.proofs.Does.{repair-does}
+use Rattle.demand1.proofs.Frames.{same-true}
+use Rattle.demand1.proofs.Meets.{meet}
+use Rattle.demand1.proofs.Repairs.{Mended, opened, kept, mended}
+use Rattle.demand1.proofs.Found.{old-sound}
+use Rattle.demand1.proofs.Steps.{steps-gives, steps-fails}
+use Rattle.demand1.proofs.Ring.{turn-zero}
+use Rattle.demand1.proofs.Ways.{outcome, Clears, Known, Ahead, Came, ends, stuck, Comes, ways}
+
+-- im is the image that the search began with, b the buffer's size, old the oldest page
+module _ {g : Geometry} {n : ℕ} (S : Sound g n) (im : List ℕ) (b old : ℕ) (ho : old < g .pages) where
+  begins : length im ≡ n → oldest g im ≡ gives old → Ahead S im b old ho 0 im
+  begins size e = record {
+    known = record { long = size; pages = λ q h. inr refl };
+    fresh = λ j l h. refl;
+    safe = old-sound g im (S .some) old e;
+  }
+
+  step-comes : length im ≡ n → oldest g im ≡ gives old → Comes S im b old ho (onTheWay g im old (from g old)) im (nextStep g b old (onPage old) im)
+  unfolding nextStep from
+  step-comes size e =
+      subst (λ (p : ℕ). Comes S im b old ho (onTheWay g im old (around g (g .pages) p)) im (nextItem g b old (2 * g .pages) (onPage p) im)) (turn-zero (g .pages) old ho)
+      (ways S im b old ho (g .pages) 0 (omega arith) im (begins size e))
+
+  -- what is Corrupted later was so from the start
+  repair-clears : (cur : List ℕ) → Known S im b old ho cur → Each (Clears g im) (repair g cur)
+  repair-clears cur K = repair-does g cur (Clears g im) (S .some) (λ p h c. (h, inl (by p c (K .pages p h))))
+    where
+      by : (p : ℕ) → same (state g cur p) Corrupted ≡ true → (state g cur p ≡ Open) ⊎ (pageBytes g cur p ≡ pageBytes g im p) → state g im p ≡ Corrupted
+      by p c (inl o) = let s = same-true (state g cur p) Corrupted c in cc
+      by p c (inr e) = sym (state-same S cur im p e) ∙ same-true (state g cur p) Corrupted c
+
+  -- after the repair the page before which the search was stuck is Open, and it ends there
+  repaired-open : (cur : List ℕ) → length cur ≡ n → (p : ℕ) → p < g .pages → state g cur p ≡ Corrupted → state g (repaired g cur) p ≡ Open
+  repaired-open cur size p h c = by (mended S cur size p h)
+    where
+      by : Mended g cur (repaired g cur) p → state g (repaired g cur) p ≡ Open
+      by (opened a o) = o
+      by (kept a e) = let s = ap (λ (x : PageState). same x Corrupted) c in never (cc)
+
+  stops-open : (jm : List ℕ) (q : ℕ) → state g jm (next g q) ≡ Open → nextStep g b old (afterPage q) jm ≡ plan [] (gives nothing)
+  unfolding nextStep nextItem leavePage
+  stops-open jm q o =
+      let z : 2 * g .pages ≡ suc (2 * g .pages - 1) = omega (arith, S .some) in
+      rw (z, o)
+
+  -- a search from the oldest page, with its repair
+  pub record Went (p : Plan Outcome) : Type 0 where
+    pub clears : Each (Clears g im) (p .events)
+    pub answered : p .answer ≡ outcome (meet g b (onTheWay g im old (from g old)))
+
+  pub search-went : length im ≡ n → oldest g im ≡ gives old → Went (searchOn g b (gives old) im)
+  unfolding searchOn bind
+  search-went size e = by (C .came)
+    where
+      C : Comes S im b old ho (onTheWay g im old (from g old)) im (nextStep g b old (onPage old) im)
+      C = step-comes size e
+
+      settle : {es : List Event} {t : Try Stand Outcome} → withRepair g (nextStep g b old) (onPage old) im ≡ plan es t → Each (Clears g im) es
+          → settled spoilt t ≡ outcome (meet g b (onTheWay g im old (from g old))) → Went (searchOn g b (gives old) im)
+      settle {es} {t} q f a = rw q (record { clears = each-append (Clears g im) es [] f tt; answered = a })
+
+      by : Came S im b old ho (onTheWay g im old (from g old)) im (nextStep g b old (onPage old) im) → Went (searchOn g b (gives old) im)
+      by (ends a) = settle (steps-gives g (nextStep g b old) (onPage old) im a) (C .clears) refl
+      by (stuck q h a m s K) =
+          let es : List Event = nextStep g b old (onPage old) im .events in
+          let j : List ℕ = imageAfter g es im in
+          let l = stops-open (repaired g j) q (repaired-open j (K .long) (next g q) (next-in g q h) s) in
+          settle (steps-fails g (nextStep g b old) (onPage old) im a ∙ ap (λ (p : Plan (Try Stand Outcome)). plan (es ++ (repair g j ++ p .events)) (p .answer)) l)
+          (each-append (Clears g im) es (repair g j ++ []) (C .clears) (each-append (Clears g im) (repair g j) [] (repair-clears j K) tt))
+          (sym (ap outcome m))

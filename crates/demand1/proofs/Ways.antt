@@ -1,0 +1,200 @@
+-- A search reads each page as it was when the search began, and so goes its way; its erases are of finished pages. Assumes nothing.
+use mathlib.Core.Path.{_≡_, refl, sym, ap, _∙_, subst}
+use mathlib.Core.Bool.{Bool, true, false, cond, _||_, or-true}
+use mathlib.Core.List.{List, [], _++_}
+use mathlib.Core.Logic.{_⊎_, inl, inr}
+use Prim.Native.Nat.{ℕ, zero, suc, _+_, _*_, _≤_, _<_}
+use native.Mathlib.Omega.{arith}
+use borrow.Author.Tests.{eq-eqb}
+use lib.Dec.{eqb}
+use lib.ListN.{length}
+use Rattle.paper.specs.declared.Geometry.{Geometry}
+use Rattle.paper.specs.declared.PageState.the-variants.{Open, Corrupted}
+use Rattle.paper.specs.Chip.{pageBytes, Event, store, erase, copy, erasePage, imageBy, imageAfter, Plan, plan, bind, andThen, Try, fails, gives}
+use Rattle.paper.specs.Scan.{Head, pageWalk, payloads}
+use Rattle.paper.specs.Pages.{state, same, next, around}
+use Rattle.paper.specs.Calls.{Met, passed, long, met, readHeads, Stand, onPage, afterPage, Outcome, nothing, short, this, onMet, readPage, leavePage, nextItem}
+use Rattle.chip.proofs.Running.{image-append}
+use Rattle.demand1.specs.Range.{Each}
+use Rattle.demand1.specs.Rows.{onTheWay}
+use Rattle.demand1.proofs.Accepted.{Sound}
+use Rattle.demand1.proofs.Lists.{each-append, each-weaker, never}
+use Rattle.demand1.proofs.Pages.{state-same, walk-same}
+use Rattle.demand1.proofs.Frames.{same-true, Apart, is, differs, apart, erase-long, erase-other, erase-open}
+use Rattle.demand1.proofs.Meets.{Copied, copied-image, heads-copied, meet, meets, thenMeet, meet-append, passed-payloads, Meets, all, tooLong, seen, meet-is}
+use Rattle.demand1.proofs.Ring.{turn, turn-full, turn-in, turn-once, turn-next}
+
+-- what a search comes to, by what its headers come to
+abbrev pub outcome : Met → Outcome
+outcome passed = nothing
+outcome (long k) = short k
+outcome (met h) = this h
+
+-- no store, and an erase of a finished page
+abbrev pub Clears : Geometry → List ℕ → Event → Type 0
+Clears g im (store a word) = ⊥
+Clears g im (erase p) = (p < g .pages) × ((state g im p ≡ Corrupted) ⊎ (payloads (pageWalk g im p .heads) ≡ []))
+Clears g im (copy a n) = Unit {0}
+
+copied-clears : (g : Geometry) (im : List ℕ) (e : Event) → Copied e → Clears g im e
+copied-clears g im (store a word) h = h
+copied-clears g im (erase p) h = absurd h
+copied-clears g im (copy a n) h = tt
+
+-- im is the image that the search began with, b the buffer's size, old the oldest page
+module _ {g : Geometry} {n : ℕ} (S : Sound g n) (im : List ℕ) (b old : ℕ) (ho : old < g .pages) where
+  -- every page was erased, or is as it was
+  pub record Known (cur : List ℕ) : Type 0 where
+    pub long : length cur ≡ n
+    pub pages : (q : ℕ) → q < g .pages → (state g cur q ≡ Open) ⊎ (pageBytes g cur q ≡ pageBytes g im q)
+
+  -- the pages from the i-th on are as they were, and the oldest is not Corrupted
+  pub record Ahead (i : ℕ) (cur : List ℕ) : Type 0 where
+    pub known : Known cur
+    pub fresh : (j : ℕ) → i ≤ j → j < g .pages → pageBytes g cur (turn (g .pages) old j) ≡ pageBytes g im (turn (g .pages) old j)
+    pub safe : same (state g cur old) Corrupted ≡ false
+
+  -- what a plan from the image cur comes to, where hs are the headers on its way: it ends; or it is stuck before a Corrupted page
+  pub data Came (hs : List Head) (cur : List ℕ) (p : Plan (Try Stand Outcome)) : Type 0 where
+    ends : p .answer ≡ gives (outcome (meet g b hs)) → Came hs cur p
+    stuck : (q : ℕ) → q < g .pages → p .answer ≡ fails (afterPage q) → meet g b hs ≡ passed → state g (imageAfter g (p .events) cur) (next g q) ≡ Corrupted
+        → Known (imageAfter g (p .events) cur) → Came hs cur p
+
+  pub record Comes (hs : List Head) (cur : List ℕ) (p : Plan (Try Stand Outcome)) : Type 0 where
+    pub clears : Each (Clears g im) (p .events)
+    pub came : Came hs cur p
+
+  -- ---- a page is erased
+
+  erase-known : (p : ℕ) → p < g .pages → (cur : List ℕ) → Known cur → Known (imageBy g (erase p) cur)
+  erase-known p h cur K = record { long = erase-long S cur (K .long) p h; pages = λ q k. by q k (apart q p) (K .pages q k) }
+    where
+      by : (q : ℕ) → q < g .pages → Apart q p → (state g cur q ≡ Open) ⊎ (pageBytes g cur q ≡ pageBytes g im q)
+          → (state g (imageBy g (erase p) cur) q ≡ Open) ⊎ (pageBytes g (imageBy g (erase p) cur) q ≡ pageBytes g im q)
+      by q k (is e) x = inl (subst (λ (y : ℕ). state g (imageBy g (erase p) cur) y ≡ Open) (sym e) (erase-open S cur (K .long) p h))
+      by q k (differs e) (inl o) = inl (state-same S (imageBy g (erase p) cur) cur q (erase-other S cur (K .long) p h q k e) ∙ o)
+      by q k (differs e) (inr o) = inr (erase-other S cur (K .long) p h q k e ∙ o)
+
+  erase-ahead : (i : ℕ) → i < g .pages → (cur : List ℕ) → Ahead i cur → Ahead (suc i) (imageBy g (erase (turn (g .pages) old i)) cur)
+  erase-ahead i k cur A = record {
+    known = erase-known p h cur (A .known);
+    fresh = λ j l r. erase-other S cur (A .known .long) p h (turn (g .pages) old j) (turn-in (g .pages) old ho j r) (not-yet j l r) ∙ A .fresh j (omega arith) r;
+    safe = by (apart old p);
+  }
+    where
+      p : ℕ
+      p = turn (g .pages) old i
+
+      h : turn (g .pages) old i < g .pages
+      h = turn-in (g .pages) old ho i k
+
+      not-yet : (j : ℕ) → suc i ≤ j → j < g .pages → turn (g .pages) old j ≡ p → ⊥
+      not-yet j l r e = let z = turn-once (g .pages) old ho j i r k e in omega arith
+
+      by : Apart old p → same (state g (imageBy g (erase p) cur) old) Corrupted ≡ false
+      by (is e) = rw (ap (state g (imageBy g (erase p) cur)) e ∙ erase-open S cur (A .known .long) p h)
+      by (differs e) = rw (state-same S (imageBy g (erase p) cur) cur old (erase-other S cur (A .known .long) p h old ho e)) (A .safe)
+
+  -- ---- leaving a page
+
+  -- the next page: the oldest one again, or as it was
+  data Next (cur : List ℕ) (q : ℕ) : Type 0 where
+    round : q ≡ old → same (state g cur q) Corrupted ≡ false → Next cur q
+    onward : state g cur q ≡ state g im q → Next cur q
+
+  next-page : (i k : ℕ) (cur : List ℕ) → i + suc k ≡ g .pages → Ahead i cur → Next cur (next g (turn (g .pages) old i))
+  next-page i k cur e A = subst (Next cur) (sym (turn-next g old i ho (omega arith))) (by k e)
+    where
+      by : (k : ℕ) → i + suc k ≡ g .pages → Next cur (turn (g .pages) old (suc i))
+      by zero e =
+          let z : suc i ≡ g .pages = omega arith in
+          let o : turn (g .pages) old (suc i) ≡ old = ap (turn (g .pages) old) z ∙ turn-full (g .pages) old ho in
+          round o (rw o (A .safe))
+      by (suc k) e = onward (state-same S cur im (turn (g .pages) old (suc i)) (A .fresh (suc i) (omega arith) (omega arith)))
+
+  abbrev stops : List ℕ → ℕ → Bool
+  stops jm q = same (state g jm q) Open || same (state g jm q) Corrupted || eqb q old
+
+  come-leave : (p : ℕ) (h : p < g .pages) (cur : List ℕ) (further : List ℕ → Plan (Try Stand Outcome)) (later : List Head) → Known cur → Next cur (next g p)
+      → payloads (pageWalk g im p .heads) ≡ [] → Comes later (imageBy g (erase p) cur) (further (imageBy g (erase p) cur))
+      → Comes (cond (stops im (next g p)) [] later) cur (leavePage g old p further cur)
+  unfolding leavePage meet bind imageAfter erasePage
+  come-leave p h cur further later K (round e c) none C =
+      rw (c, eq-eqb (next g p) old e, or-true (same (state g im (next g p)) Open || same (state g im (next g p)) Corrupted), or-true (same (state g cur (next g p)) Open))
+      (record { clears = tt; came = ends refl })
+  come-leave p h cur further later K (onward e) none C = rw e (by (same (state g im (next g p)) Open) (same (state g im (next g p)) Corrupted) (eqb (next g p) old) refl)
+    where
+      quiet : Known (imageAfter g [] cur)
+      quiet = K
+
+      turned : Came later (imageBy g (erase p) cur) (further (imageBy g (erase p) cur)) → Came later cur (andThen g cur (erasePage g p) further)
+      turned (ends q) = ends q
+      turned (stuck q k a m s K) = stuck q k a m s K
+
+      by : (o c r : Bool) → same (state g im (next g p)) Corrupted ≡ c
+          → Comes (cond (o || c || r) [] later) cur (cond c (plan [] (fails (afterPage p))) (cond (o || r) (plan [] (gives nothing)) (andThen g cur (erasePage g p) further)))
+      by true true r q = record { clears = tt; came = stuck p h refl refl (e ∙ same-true (state g im (next g p)) Corrupted q) quiet }
+      by false true r q = record { clears = tt; came = stuck p h refl refl (e ∙ same-true (state g im (next g p)) Corrupted q) quiet }
+      by true false r q = record { clears = tt; came = ends refl }
+      by false false true q = record { clears = tt; came = ends refl }
+      by false false false q = record { clears = ((h, inr none), C .clears); came = turned (C .came) }
+
+  -- ---- reading a page
+
+  none-present : (hs : List Head) {m : Met} → Meets g b hs m → m ≡ passed → payloads hs ≡ []
+  none-present hs (all e) q = passed-payloads g b hs e
+  none-present hs (tooLong h s a c) q = never (cc)
+  none-present hs (seen h s a c) q = never (cc)
+
+  module _ (hs : List Head) (cur : List ℕ) (further : List ℕ → Plan (Try Stand Outcome)) where
+    abbrev reads : List Event
+    reads = readHeads g b hs cur .events
+
+    copies : Each Copied reads
+    copies = heads-copied g b hs cur
+
+    done : Each (Clears g im) reads
+    done = each-weaker Copied (Clears g im) (copied-clears g im) reads copies
+
+    bound : (m : Met) → meet g b hs ≡ m → bind g cur (readHeads g b hs cur) (onMet further) ≡ plan (reads ++ onMet further m cur .events) (onMet further m cur .answer)
+    unfolding bind
+    bound m q = rw (meets g b hs cur, q, copied-image g reads cur copies)
+
+    joined : (later : List Head) (m : Met) → meet g b hs ≡ m → meet g b (hs ++ later) ≡ thenMeet m (meet g b later)
+    joined later m q = meet-append g b hs later ∙ ap (λ (x : Met). thenMeet x (meet g b later)) q
+
+    come-heads : (later : List Head) → (payloads hs ≡ [] → Comes later cur (further cur)) → Comes (hs ++ later) cur (bind g cur (readHeads g b hs cur) (onMet further))
+    unfolding onMet
+    come-heads later f = by (meet g b hs) refl
+      where
+        after : (es : List Event) → imageAfter g (reads ++ es) cur ≡ imageAfter g es cur
+        after es = image-append g reads es cur ∙ ap (imageAfter g es) (copied-image g reads cur copies)
+
+        come : meet g b hs ≡ passed → Came later cur (further cur) → Came (hs ++ later) cur (plan (reads ++ further cur .events) (further cur .answer))
+        come q (ends a) = ends (a ∙ ap (λ (m : Met). gives (outcome m)) (sym (joined later passed q)))
+        come q (stuck r h a m s K) = stuck r h a (joined later passed q ∙ m) (rw (after (further cur .events)) s) (rw (after (further cur .events)) K)
+
+        by : (m : Met) → meet g b hs ≡ m → Comes (hs ++ later) cur (bind g cur (readHeads g b hs cur) (onMet further))
+        by passed q =
+            let C = f (none-present hs (meet-is g b hs) q) in
+            subst (Comes (hs ++ later) cur) (sym (bound passed q)) (record { clears = each-append (Clears g im) reads (further cur .events) done (C .clears); came = come q (C .came) })
+        by (long k) q = subst (Comes (hs ++ later) cur) (sym (bound (long k) q))
+            (record { clears = each-append (Clears g im) reads [] done tt; came = ends (ap (λ (m : Met). gives (outcome m)) (sym (joined later (long k) q))) })
+        by (met h) q = subst (Comes (hs ++ later) cur) (sym (bound (met h) q))
+            (record { clears = each-append (Clears g im) reads [] done tt; came = ends (ap (λ (m : Met). gives (outcome m)) (sym (joined later (met h) q))) })
+
+  -- ---- all the way
+
+  pub ways : (k i : ℕ) → i + k ≡ g .pages → (cur : List ℕ) → Ahead i cur
+      → Comes (onTheWay g im old (around g k (turn (g .pages) old i))) cur (nextItem g b old (2 * k) (onPage (turn (g .pages) old i)) cur)
+  unfolding onTheWay around nextItem readPage meet
+  ways zero i e cur A = record { clears = tt; came = ends refl }
+  ways (suc k) i e cur A =
+      let p : ℕ = turn (g .pages) old i in
+      let h : i < g .pages = omega arith in
+      let z : 2 * suc k ≡ suc (suc (2 * k)) = omega arith in
+      let nx = turn-next g old i ho h in
+      rw (z, walk-same S cur im p (A .fresh i (omega arith) h))
+      (come-heads (pageWalk g im p .heads) cur (leavePage g old p (nextItem g b old (2 * k) (onPage (next g p)))) _
+      (λ none. come-leave p (turn-in (g .pages) old ho i h) cur (nextItem g b old (2 * k) (onPage (next g p))) _ (A .known) (next-page i k cur e A) none
+      (rw nx (ways k (suc i) (omega arith) (imageBy g (erase p) cur) (erase-ahead i h cur A)))))

@@ -1,0 +1,67 @@
+-- The stores of a mark, of a header and of an item lie in the range. Assumes nothing.
+use mathlib.Core.Path.{_≡_, ap, _∙_}
+use mathlib.Core.List.{List}
+use Prim.Native.Nat.{ℕ, zero, suc, _+_, _*_, _≤_, _<_, _∣_}
+use native.Mathlib.Nat.{suc-mul, dvd-add, dvd-refl, mod-eq-zero-of-dvd}
+use native.Mathlib.Omega.{arith}
+use lib.ListN.{length, drop, length-replicate}
+use Rattle.paper.specs.declared.Geometry.{Geometry}
+use Rattle.paper.specs.Checksum.{dataCrc}
+use Rattle.paper.specs.Chip.{wordsFor, roundUp, headerSize, pageStart, words, writes}
+use Rattle.paper.specs.Slip.{bytesOf, encode}
+use Rattle.paper.specs.Pages.{setStart, setEnd}
+use Rattle.paper.specs.Calls.{itemAt}
+use Rattle.chip.proofs.Rounding.{round-up-again}
+use Rattle.chip.proofs.Writing.{length-padded}
+use Rattle.chip.proofs.Geometry.{page-in}
+use Rattle.demand1.specs.Range.{Lies, Each}
+use Rattle.demand1.proofs.Accepted.{Sound}
+use Rattle.demand1.proofs.Lists.{each-append}
+use Rattle.demand1.proofs.Pages.{layout, header-whole}
+use Rattle.demand1.proofs.Walks.{Room, header-low}
+
+module _ {g : Geometry} {n : ℕ} (S : Sound g n) where
+  pub start-lies : (p : ℕ) → p < g .pages → Lies g (setStart g p)
+  unfolding setStart
+  start-lies p h =
+      let L = layout S p in
+      (length-replicate (g .word) 0, mod-eq-zero-of-dvd (g .word) (L .start-whole), L .start-low, omega (arith, page-in g p h))
+
+  pub end-lies : (p : ℕ) → p < g .pages → Lies g (setEnd g p)
+  unfolding setEnd
+  end-lies p h =
+      let L = layout S p in
+      (length-replicate (g .word) 0, mod-eq-zero-of-dvd (g .word) (L .end-whole), omega arith, omega (arith, page-in g p h))
+
+  words-lie : (k a : ℕ) (bytes : List ℕ) → g .word ∣ a → g .start ≤ a → a + k * g .word ≤ pageStart g (g .pages) → Each (Lies g) (words (g .word) k a bytes)
+  unfolding words
+  words-lie zero a bytes v l h = tt
+  words-lie (suc k) a bytes v l h =
+      let s = suc-mul k (g .word) in (
+        (length-padded (g .word) bytes, mod-eq-zero-of-dvd (g .word) v, l, omega arith),
+        words-lie k (a + g .word) (drop (g .word) bytes) (dvd-add (g .word) v (dvd-refl (g .word))) (omega arith) (omega arith),
+      )
+
+  writes-lie : (a : ℕ) (bytes : List ℕ) → g .word ∣ a → g .start ≤ a → a + roundUp (g .word) (length bytes) ≤ pageStart g (g .pages) → Each (Lies g) (writes g a bytes)
+  unfolding writes roundUp
+  writes-lie a bytes v l h = words-lie (wordsFor (g .word) (length bytes)) a bytes v l h
+
+  encode-length : (c m : ℕ) → length (encode g c m) ≡ headerSize g
+  unfolding encode bytesOf
+  encode-length c m = simp length-replicate (omega (arith, header-low g (S .low)))
+
+  encode-rounded : (c m : ℕ) → roundUp (g .word) (length (encode g c m)) ≡ headerSize g
+  unfolding headerSize
+  encode-rounded c m = ap (roundUp (g .word)) (encode-length c m) ∙ round-up-again (g .word) 8 (S .low)
+
+  -- where an item has room
+  module _ (a m : ℕ) (R : Room g a m) where
+    pub header-lies : (c k : ℕ) → Each (Lies g) (writes g a (encode g c k))
+    header-lies c k = writes-lie a (encode g c k) (R .aligned) (R .low) (omega (arith, encode-rounded c k, R .high))
+
+  pub item-lies : (a : ℕ) (slip : List ℕ) → Room g a (length slip) → Each (Lies g) (itemAt g a slip)
+  unfolding itemAt
+  item-lies a slip R =
+      each-append (Lies g) (writes g a (encode g (dataCrc slip) (length slip))) (writes g (a + headerSize g) slip)
+      (header-lies a (length slip) R (dataCrc slip) (length slip))
+      (writes-lie (a + headerSize g) slip (dvd-add (g .word) (R .aligned) (header-whole g)) (omega (arith, R .low)) (omega (arith, R .high)))

@@ -1,0 +1,5 @@
+pub mod Range
+pub mod Shapes
+pub mod Rows
+pub mod Buffers
+pub mod Demand1

@@ -1,0 +1,163 @@
+-- Demand 1: rows 0 to 7 of the table of refusals: given exactly when, and the image afterwards. Assumes nothing.
+use mathlib.Core.Path.{_≡_}
+use mathlib.Core.Bool.{Bool, true, false, cond, _||_}
+use mathlib.Core.List.{List, [], _∷_, _++_}
+use mathlib.Core.Logic.{_⊎_}
+use Prim.Native.Nat.{ℕ, _+_, _*_, _≤_, _<_}
+use lib.Dec.{eqb}
+use lib.ListN.{length}
+use Rattle.paper.specs.declared.Shape.{Shape}
+use Rattle.paper.specs.declared.Refusal.the-variants as refusal
+use Rattle.paper.specs.declared.Checked.the-variants.{Accepted}
+use Rattle.paper.specs.declared.Geometry.{Geometry}
+use Rattle.paper.specs.Chip.{roundUp, headerSize, Event, store, erase, copy, imageAfter, storeCount, before, Plan, Try, fails, gives}
+use Rattle.paper.specs.Scan.{Head, pageWalk, live, present, payloads}
+use Rattle.paper.specs.declared.PageState.the-variants.{Open, Corrupted}
+use Rattle.paper.specs.Pages.{state, same, setStart, next, from, youngest, oldest, repair}
+use Rattle.paper.specs.Refusals.{check, Answer, done, shown, number, none, empty, refused}
+use Rattle.paper.specs.Calls.{spotStep, push, peek, pop, fit, findMaxFit, space, spaceLeft, eraseAll, Request, requested, limited}
+use Rattle.paper.specs.Fifo.{Full}
+use Rattle.demand1.specs.Range.{Each}
+use Rattle.demand1.specs.Shapes.{Iff}
+
+-- the image after a repair
+abbrev pub repaired : Geometry → List ℕ → List ℕ
+repaired g im = imageAfter g (repair g im) im
+
+-- a step failed
+pub data Fails {W A : Type 0} : Try W A → Type 0 where
+  failed : {w : W} → Fails (fails w)
+
+-- ---- the limit: row 7
+
+-- "first k stores", and "exactly when k is less than the list's length"
+pub record OfCut : Type 0 where
+  pub stores : (k : ℕ) (p : Plan Answer) → k < storeCount (p .events) → limited k p .events ≡ before k (p .events)
+  pub count : (k : ℕ) (p : Plan Answer) → k < storeCount (p .events) → storeCount (limited k p .events) ≡ k
+  pub whole : (k : ℕ) (p : Plan Answer) → (k < storeCount (p .events) → ⊥) → limited k p ≡ p
+  pub answered : (k : ℕ) (s : Shape) (im : List ℕ) (c : Request)
+      → Iff (limited k (requested s im c) .answer ≡ refused refusal.Cut) (k < storeCount (requested s im c .events))
+
+-- ---- push: rows 0, 2, 3 and 5
+
+-- the start mark of the current page
+pub record MarkOf (g : Geometry) (im : List ℕ) (mark : List Event) : Type 0 where
+  pub page : ℕ
+  pub current : youngest g im ≡ gives page
+  pub is : mark ≡ setStart g page ∷ []
+
+-- "repairs and the current page's start mark may be new, nothing else"
+pub record OnlyMark (g : Geometry) (im : List ℕ) (es : List Event) : Type 0 where
+  pub repairs : List Event
+  pub mark : List Event
+  pub all : es ≡ repairs ++ mark
+  pub maybe-repaired : (repairs ≡ []) ⊎ (repairs ≡ repair g im)
+  pub maybe-marked : (mark ≡ []) ⊎ MarkOf g (imageAfter g repairs im) mark
+
+-- the step of a push ran on the image as it was; or it failed there, and ran on the repaired one
+abbrev pub OnStep : Geometry → List ℕ → List ℕ → (List ℕ → Type 0) → Type 0
+OnStep g im slip P = P im ⊎ (Fails (spotStep g (length slip) false tt im .answer) × P (repaired g im))
+
+-- "length over 65,535, or over page - 2 words - header"
+abbrev pub TooBig : Geometry → ℕ → Type 0
+TooBig g n = (65535 < n) ⊎ (g .page < 2 * g .word + headerSize g + n)
+
+-- of a plan that pushes a slip
+pub record OfPush (g : Geometry) (im slip : List ℕ) (over : Bool) (p : Plan Answer) : Type 0 where
+  -- "unchanged"
+  pub big : Iff (p .answer ≡ refused refusal.ItemTooBig) (TooBig g (length slip))
+  pub big-image : p .answer ≡ refused refusal.ItemTooBig → p .events ≡ []
+  -- "overwriting off, no spot here, next page Closed or the sole page, and it has a live header"
+  pub full : Iff (p .answer ≡ refused refusal.FullStorage)
+      ((over ≡ false) × (TooBig g (length slip) → ⊥) × OnStep g im slip (λ i. Full g i (length slip)))
+  pub full-image : p .answer ≡ refused refusal.FullStorage → OnlyMark g im (p .events)
+  -- "a step fails with Corrupted, and again after one repair"; "repairs and earlier stores stay": there are no earlier stores
+  pub corrupted : Iff (p .answer ≡ refused refusal.Corrupted)
+      ((TooBig g (length slip) → ⊥) × Fails (spotStep g (length slip) over tt im .answer) × Fails (spotStep g (length slip) over tt (repaired g im) .answer))
+  pub corrupted-image : p .answer ≡ refused refusal.Corrupted → p .events ≡ repair g im
+  -- "a push .. was made" in every other case
+  pub otherwise : (p .answer ≡ refused refusal.ItemTooBig → ⊥) → (p .answer ≡ refused refusal.FullStorage → ⊥) → (p .answer ≡ refused refusal.Corrupted → ⊥)
+      → p .answer ≡ done
+
+-- ---- peek and pop: rows 0, 1, 4 and 5
+
+-- the headers on the way of a search over pages, from the oldest on: it ends before a page that is Open or Corrupted, and before the oldest
+unfoldable pub onTheWay : Geometry → List ℕ → ℕ → List ℕ → List Head
+onTheWay g im old [] = []
+onTheWay g im old (p ∷ ps) =
+    let later = onTheWay g im old ps in
+    let s = state g im (next g p) in
+    pageWalk g im p .heads ++ cond (same s Open || same s Corrupted || eqb (next g p) old) [] later
+
+-- a header that a search with a buffer of n bytes goes past: popped; or torn, and the buffer takes it
+abbrev pub Passed : Geometry → ℕ → Head → Type 0
+Passed g n h = (live h ≡ false) ⊎ ((present h ≡ false) × (roundUp (g .word) (h .len) ≤ n))
+
+-- the first header of a list that a search does not go past
+pub record Stops (g : Geometry) (n : ℕ) (hs : List Head) (h : Head) : Type 0 where
+  pub front : List Head
+  pub rest : List Head
+  pub all : hs ≡ front ++ (h ∷ rest)
+  pub passed : Each (Passed g n) front
+
+-- it is live, and too long for the buffer: k is its rounded length
+pub record TooLong (g : Geometry) (n : ℕ) (hs : List Head) (k : ℕ) : Type 0 where
+  pub head : Head
+  pub stops : Stops g n hs head
+  pub alive : live head ≡ true
+  pub is : k ≡ roundUp (g .word) (head .len)
+  pub over : n < k
+
+-- it is present, and the buffer takes it: k is its length
+pub record Seen (g : Geometry) (n : ℕ) (hs : List Head) (k : ℕ) : Type 0 where
+  pub head : Head
+  pub stops : Stops g n hs head
+  pub whole : present head ≡ true
+  pub is : k ≡ head .len
+  pub fits : roundUp (g .word) (head .len) ≤ n
+
+-- where the search goes: the oldest page is found at once, or after a repair
+pub data Way (g : Geometry) (im : List ℕ) : List Head → Type 0 where
+  direct : {old : ℕ} → oldest g im ≡ gives old → Way g im (onTheWay g im old (from g old))
+  mended : {old : ℕ} → Fails (oldest g im) → oldest g (repaired g im) ≡ gives old → Way g im (onTheWay g (repaired g im) old (from g old))
+
+-- "repairs, and finished pages erased as ruled": a Corrupted page is erased, or one on which no present item stood; nothing is stored
+abbrev pub Finished : Geometry → List ℕ → Event → Type 0
+Finished g im (store a word) = ⊥
+Finished g im (erase p) = (state g im p ≡ Corrupted) ⊎ (payloads (pageWalk g im p .heads) ≡ [])
+Finished g im (copy a n) = Unit {0}
+
+-- of a plan that peeks or pops with a buffer of n bytes
+pub record OfSearch (g : Geometry) (im : List ℕ) (n : ℕ) (p : Plan Answer) : Type 0 where
+  -- "peek or pop meets no present item"
+  pub none : {hs : List Head} → Way g im hs → Iff (p .answer ≡ empty) (Each (Passed g n) hs)
+  -- "the first live header that doesn't fit the buffer is met; n is its rounded length"
+  pub short : {hs : List Head} → Way g im hs → (k : ℕ)
+      → Iff (p .answer ≡ refused (refusal.BufferTooSmall k)) (TooLong g n hs k)
+  -- a present item is shown
+  pub seen : {hs : List Head} → Way g im hs → (k : ℕ) → Iff (p .answer ≡ shown k) (Seen g n hs k)
+  pub none-image : p .answer ≡ empty → Each (Finished g im) (p .events)
+  pub short-image : (k : ℕ) → p .answer ≡ refused (refusal.BufferTooSmall k) → Each (Finished g im) (p .events)
+  -- "a step fails with Corrupted, and again after one repair": only finding the start can
+  pub corrupted : Iff (p .answer ≡ refused refusal.Corrupted) (Fails (oldest g im) × Fails (oldest g (repaired g im)))
+  pub corrupted-image : p .answer ≡ refused refusal.Corrupted → p .events ≡ repair g im
+  -- a slip is shown in every other case
+  pub otherwise : (p .answer ≡ empty → ⊥) → ((k : ℕ) → p .answer ≡ refused (refusal.BufferTooSmall k) → ⊥) → (p .answer ≡ refused refusal.Corrupted → ⊥)
+      → (k : ℕ) × (p .answer ≡ shown k)
+
+-- ---- the counts and erase_all: rows 0 and 5
+
+pub record OfCount (g : Geometry) (im : List ℕ) (count : List ℕ → Try Unit Answer) (p : Plan Answer) : Type 0 where
+  pub corrupted : Iff (p .answer ≡ refused refusal.Corrupted) (Fails (count im) × Fails (count (repaired g im)))
+  pub image : (p .events ≡ []) ⊎ (p .events ≡ repair g im)
+  -- a number, or "done, marked as none", in every other case
+  pub otherwise : (p .answer ≡ refused refusal.Corrupted → ⊥) → (p .answer ≡ none) ⊎ ((k : ℕ) × (p .answer ≡ number k))
+
+pub record Rows : Type 0 where
+  pub of-cut : OfCut
+  pub of-push : (g : Geometry) (im : List ℕ) (s : Shape) → check (length im) s ≡ Accepted g → (slip : List ℕ) (over : Bool) → OfPush g im slip over (push g im slip over)
+  pub of-peek : (g : Geometry) (im : List ℕ) (s : Shape) → check (length im) s ≡ Accepted g → (n : ℕ) → OfSearch g im n (peek g im n)
+  pub of-pop : (g : Geometry) (im : List ℕ) (s : Shape) → check (length im) s ≡ Accepted g → (n : ℕ) → OfSearch g im n (pop g im n)
+  pub of-fit : (g : Geometry) (im : List ℕ) (s : Shape) → check (length im) s ≡ Accepted g → OfCount g im (fit g) (findMaxFit g im)
+  pub of-space : (g : Geometry) (im : List ℕ) (s : Shape) → check (length im) s ≡ Accepted g → OfCount g im (space g) (spaceLeft g im)
+  pub of-erase : (g : Geometry) → eraseAll g .answer ≡ done
