@@ -49,3 +49,4 @@ pub mod Demand3
 pub mod Soundness
 pub mod Once
 pub mod Premises
+pub mod PremisesMet
