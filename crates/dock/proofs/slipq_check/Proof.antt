@@ -1,0 +1,33 @@
+-- `dock::slipq_check` meets its contract: by the cases of the check. Assumes nothing.
+use borrow.Author.Needs.{needs}
+use Rattle.dock.proofs.slipq_check.Statement.{statement}
+use Rattle.dock.proofs.slipq_check.Tie as tie
+
+check-geometry-requires : tie.Need-check-geometry-requires
+check-geometry-requires c κs = search needs
+
+enum-told : tie.Need-enum-told
+enum-told c = search needs
+
+enum-known-checked : tie.Need-enum-known-checked
+enum-known-checked c = search needs
+
+refusal-code-requires : tie.Need-refusal-code-requires
+refusal-code-requires c κs = search needs
+
+returns : tie.Need-returns
+returns c = rw (← c .before .before .check-geometry .ensures, c .enum-told .given .1)
+
+returns-2 : tie.Need-returns-2
+returns-2 c = rw (← c .before .before .before .before .check-geometry .ensures, c .before .before .checked .given .1) (c .refusal-code .ensures)
+
+pub slipq-check-spec : {M : Type 1} → statement M
+slipq-check-spec =
+    tie.close
+    (tie.spec
+    check-geometry-requires
+    enum-told
+    enum-known-checked
+    refusal-code-requires
+    returns
+    returns-2)

@@ -1,0 +1,26 @@
+-- `dock::slipq_find_max_fit` meets its contract: the queue's own promise, with its answer as a number. Assumes nothing.
+use borrow.Author.Needs.{needs}
+use Rattle.dock.proofs.Calls.{coded}
+use Rattle.dock.proofs.slipq_find_max_fit.Statement.{statement}
+use Rattle.dock.proofs.slipq_find_max_fit.Tie as tie
+
+find-max-fit-requires : tie.Need-find-max-fit-requires
+find-max-fit-requires c κs = search needs
+
+fit-code-requires : tie.Need-fit-code-requires
+fit-code-requires c κs = search needs
+
+same-length : tie.Need-same-length
+same-length c = search needs
+
+returns : tie.Need-returns
+returns c = coded (c .before .before .before .find-max-fit .ensures) (c .fit-code .ensures)
+
+pub slipq-find-max-fit-spec : {M : Type 1} → statement M
+slipq-find-max-fit-spec =
+    tie.close
+    (tie.spec
+    find-max-fit-requires
+    fit-code-requires
+    same-length
+    returns)

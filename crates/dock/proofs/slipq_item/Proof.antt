@@ -1,0 +1,50 @@
+-- `dock::slipq_item` meets its contract: by the cases of the check, and whether there is such a page. Assumes nothing.
+use borrow.Author.Needs.{needs}
+use Rattle.dock.specs.Sights.{itemCode, sight}
+use Rattle.dock.proofs.Sights.{page-refused, page-missing, page-there}
+use Rattle.dock.proofs.slipq_item.Statement.{statement}
+use Rattle.dock.proofs.slipq_item.Tie as tie
+
+check-geometry-requires : tie.Need-check-geometry-requires
+check-geometry-requires c κs = search needs
+
+enum-known-checked : tie.Need-enum-known-checked
+enum-known-checked c = search needs
+
+refusal-code-requires : tie.Need-refusal-code-requires
+refusal-code-requires c κs = search needs
+
+enum-known-checked-2 : tie.Need-enum-known-checked-2
+enum-known-checked-2 c = search needs
+
+refusal-code-requires-2 : tie.Need-refusal-code-requires-2
+refusal-code-requires-2 c κs = search needs
+
+returns : tie.Need-returns
+unfolding itemCode
+returns c = page-missing _ _ (c .before .before .before .before .before .before .before .before .args .p) (c .before .before .before .before .before .before .check-geometry .ensures) _ _ (c .before .before .before .before .checked2 .given .1) (c .before .if1 .taken) (c .refusal-code2 .ensures)
+
+item-on-page-requires : tie.Need-item-on-page-requires
+item-on-page-requires c κs = (c .before .before .before .before .before .check-geometry .ensures .within _ (c .before .before .before .checked2 .given .1), c .if1 .left)
+
+returns-2 : tie.Need-returns-2
+unfolding itemCode
+returns-2 c = page-refused _ _ (c .before .before .before .before .before .before .args .p) (c .before .before .before .before .check-geometry .ensures) _ _ (c .before .before .checked .given .1) (c .refusal-code .ensures)
+
+returns-3 : tie.Need-returns-3
+unfolding itemCode
+returns-3 c = page-there _ _ (c .before .before .before .before .before .before .before .before .args .p) (c .before .before .before .before .before .before .check-geometry .ensures) (λ g. sight g (c .before .before .before .before .before .before .before .before .args .image .now) (c .before .before .before .before .before .before .before .before .args .p) (c .before .before .before .before .before .before .before .before .args .address)) _ (c .before .before .before .before .checked2 .given .1) (c .before .if1 .left) (c .item-on-page .ensures)
+
+pub slipq-item-spec : {M : Type 1} → statement M
+slipq-item-spec =
+    tie.close
+    (tie.spec
+    check-geometry-requires
+    enum-known-checked
+    refusal-code-requires
+    enum-known-checked-2
+    refusal-code-requires-2
+    returns
+    item-on-page-requires
+    returns-2
+    returns-3)

@@ -1,0 +1,67 @@
+-- `dock::slipq_page_state` meets its contract: by the cases of the check, and whether there is such a page. Assumes nothing.
+use borrow.Author.Needs.{needs}
+use mathlib.Core.Path.{ap, _∙_}
+use Rattle.dock.specs.Codes.{code}
+use Rattle.paper.specs.declared.PageState.{PageState}
+use Rattle.paper.specs.Pages.{rank, state}
+use Rattle.dock.specs.Sights.{stateCode}
+use Rattle.dock.proofs.Sights.{page-refused, page-missing, page-there}
+use Rattle.dock.proofs.Calls.{coded}
+use Rattle.dock.proofs.slipq_page_state.Statement.{statement}
+use Rattle.dock.proofs.slipq_page_state.Tie as tie
+
+check-geometry-requires : tie.Need-check-geometry-requires
+check-geometry-requires c κs = search needs
+
+enum-known-checked : tie.Need-enum-known-checked
+enum-known-checked c = search needs
+
+refusal-code-requires : tie.Need-refusal-code-requires
+refusal-code-requires c κs = search needs
+
+enum-known-checked-2 : tie.Need-enum-known-checked-2
+enum-known-checked-2 c = search needs
+
+refusal-code-requires-2 : tie.Need-refusal-code-requires-2
+refusal-code-requires-2 c κs = search needs
+
+returns : tie.Need-returns
+unfolding stateCode
+returns c = page-missing _ _ (c .before .before .before .before .before .before .before .before .args .p) (c .before .before .before .before .before .before .check-geometry .ensures) _ _ (c .before .before .before .before .checked2 .given .1) (c .before .if1 .taken) (c .refusal-code2 .ensures)
+
+get-page-state-requires : tie.Need-get-page-state-requires
+get-page-state-requires c κs = (c .before .before .before .before .before .check-geometry .ensures .within _ (c .before .before .before .checked2 .given .1), c .if1 .left)
+
+rank-requires : tie.Need-rank-requires
+rank-requires c κs = search needs
+
+cast-coded : tie.Need-cast-coded
+cast-coded c = search needs
+
+coded-requires : tie.Need-coded-requires
+coded-requires c κs = search needs
+
+returns-2 : tie.Need-returns-2
+unfolding stateCode
+returns-2 c = page-refused _ _ (c .before .before .before .before .before .before .args .p) (c .before .before .before .before .check-geometry .ensures) _ _ (c .before .before .checked .given .1) (c .refusal-code .ensures)
+
+returns-3 : tie.Need-returns-3
+unfolding stateCode
+returns-3 c = page-there _ _ (c .before .before .before .before .before .before .before .before .before .before .args .p) (c .before .before .before .before .before .before .before .before .check-geometry .ensures) (λ g. code 0 (rank (state g (c .before .before .before .before .before .before .before .before .before .before .args .image .now) (c .before .before .before .before .before .before .before .before .before .before .args .p)))) _ (c .before .before .before .before .before .before .checked2 .given .1) (c .before .before .before .if1 .left) (c .coded .ensures ∙ ap (code 0) (c .before .rank .ensures ∙ ap (λ (x : PageState). rank x) (c .before .before .get-page-state .ensures)))
+
+pub slipq-page-state-spec : {M : Type 1} → statement M
+slipq-page-state-spec =
+    tie.close
+    (tie.spec
+    check-geometry-requires
+    enum-known-checked
+    refusal-code-requires
+    enum-known-checked-2
+    refusal-code-requires-2
+    returns
+    get-page-state-requires
+    rank-requires
+    cast-coded
+    coded-requires
+    returns-2
+    returns-3)

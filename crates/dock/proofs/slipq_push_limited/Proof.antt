@@ -1,0 +1,26 @@
+-- `dock::slipq_push_limited` meets its contract: the queue's own promise, with its answer as a number. Assumes nothing.
+use borrow.Author.Needs.{needs}
+use Rattle.dock.proofs.Calls.{coded}
+use Rattle.dock.proofs.slipq_push_limited.Statement.{statement}
+use Rattle.dock.proofs.slipq_push_limited.Tie as tie
+
+push-limited-requires : tie.Need-push-limited-requires
+push-limited-requires c κs = search needs
+
+pushed-code-requires : tie.Need-pushed-code-requires
+pushed-code-requires c κs = search needs
+
+same-length : tie.Need-same-length
+same-length c = search needs
+
+returns : tie.Need-returns
+returns c = coded (c .before .before .before .push-limited .ensures) (c .pushed-code .ensures)
+
+pub slipq-push-limited-spec : {M : Type 1} → statement M
+slipq-push-limited-spec =
+    tie.close
+    (tie.spec
+    push-limited-requires
+    pushed-code-requires
+    same-length
+    returns)

@@ -1,0 +1,26 @@
+-- `dock::slipq_space_left_limited` meets its contract: the queue's own promise, with its answer as a number. Assumes nothing.
+use borrow.Author.Needs.{needs}
+use Rattle.dock.proofs.Calls.{coded}
+use Rattle.dock.proofs.slipq_space_left_limited.Statement.{statement}
+use Rattle.dock.proofs.slipq_space_left_limited.Tie as tie
+
+space-left-limited-requires : tie.Need-space-left-limited-requires
+space-left-limited-requires c κs = search needs
+
+space-code-requires : tie.Need-space-code-requires
+space-code-requires c κs = search needs
+
+same-length : tie.Need-same-length
+same-length c = search needs
+
+returns : tie.Need-returns
+returns c = coded (c .before .before .before .space-left-limited .ensures) (c .space-code .ensures)
+
+pub slipq-space-left-limited-spec : {M : Type 1} → statement M
+slipq-space-left-limited-spec =
+    tie.close
+    (tie.spec
+    space-left-limited-requires
+    space-code-requires
+    same-length
+    returns)

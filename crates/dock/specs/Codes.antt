@@ -1,0 +1,72 @@
+-- The answers of the C face, each as one number: document 01's row in its low 32 bits, the value that comes with it above. Assumes nothing.
+use mathlib.Core.Path.{_≡_}
+use mathlib.Core.Bool.{Bool, not}
+use mathlib.Core.List.{List, [], _∷_}
+use Prim.Native.Nat.{ℕ, _+_, _*_, _%_, _^_}
+use lib.Dec.{eqb}
+use Rattle.paper.specs.declared.Geometry.{Geometry}
+use Rattle.paper.specs.declared.Shape.{Shape}
+use Rattle.paper.specs.declared.Checked.{Checked}
+use Rattle.paper.specs.declared.Checked.the-variants.{Accepted, Refused}
+use Rattle.paper.specs.Chip.{imageAfter, bufferAfter, Plan}
+use Rattle.paper.specs.Refusals.{Answer, done, shown, number, none, empty, refused, row, geometryOf}
+use Rattle.paper.specs.Calls.{Request, requested, limited}
+
+-- ---- numbers
+
+-- a row and a value; lengths and sizes are far below 2^32
+unfoldable pub code : ℕ → ℕ → ℕ
+code r value = value % 2 ^ 32 * 2 ^ 32 + r
+
+-- a row with the values that come with it, of which there is one at most
+abbrev pub rowCode : List ℕ → ℕ
+rowCode [] = 0
+rowCode (r ∷ []) = r
+rowCode (r ∷ value ∷ more) = code r value
+
+-- "done, marked as none" is the largest value
+abbrev pub codeOf : Answer → ℕ
+codeOf done = 0
+codeOf (shown n) = code 0 n
+codeOf (number n) = code 0 n
+codeOf none = code 0 0xffff_ffff
+codeOf empty = 1
+codeOf (refused r) = rowCode (row r)
+
+abbrev pub codeOfCheck : Checked → ℕ
+codeOfCheck (Accepted g) = 0
+codeOfCheck (Refused r) = rowCode (row r)
+
+-- ---- what C passes
+
+abbrev pub shapeOf : ℕ → ℕ → ℕ → ℕ → Shape
+shapeOf start end page word = record { start = start; end = end; page = page; word = word }
+
+-- a switch is on unless it is 0
+abbrev pub isOn : ℕ → Bool
+isOn flag = not (eqb flag 0)
+
+-- ---- what the calls promise
+
+-- the plan p takes the image from i to o, and r is its answer as a number
+pub record Coded (g : Geometry) (p : Plan Answer) (i o : List ℕ) (r : ℕ) : Type 0 where
+  pub image : o ≡ imageAfter g (p .events) i
+  pub answer : r ≡ codeOf (p .answer)
+
+-- it also takes the buffer from d to e
+pub record CodedShown (g : Geometry) (p : Plan Answer) (i o d e : List ℕ) (r : ℕ) : Type 0 where
+  pub coded : Coded g p i o r
+  pub buffer : e ≡ bufferAfter g (p .events) i d
+
+-- the request c on the shape s, whole and with the limit k
+abbrev pub Answers : Shape → Request → List ℕ → List ℕ → ℕ → Type 0
+Answers s c i o r = Coded (geometryOf s) (requested s i c) i o r
+
+abbrev pub AnswersWithin : ℕ → Shape → Request → List ℕ → List ℕ → ℕ → Type 0
+AnswersWithin k s c i o r = Coded (geometryOf s) (limited k (requested s i c)) i o r
+
+abbrev pub Shows : Shape → Request → List ℕ → List ℕ → List ℕ → List ℕ → ℕ → Type 0
+Shows s c i o d e r = CodedShown (geometryOf s) (requested s i c) i o d e r
+
+abbrev pub ShowsWithin : ℕ → Shape → Request → List ℕ → List ℕ → List ℕ → List ℕ → ℕ → Type 0
+ShowsWithin k s c i o d e r = CodedShown (geometryOf s) (limited k (requested s i c)) i o d e r

@@ -1,0 +1,492 @@
+// The C face of the queue: the check, one function for each call, whole and limited, and two that only look at the image. They take what C
+// can pass, numbers and slices, and answer one number. None of those that C can call requires anything. include/slipq.h declares them.
+ghost use mathlib.Core.Path.{_≡_};
+ghost use Prim.Native.Nat.{_-_, _<_, _≤_};
+ghost use lib.ListN.{length};
+ghost use Rattle.paper.specs.Chip.{part};
+ghost use Rattle.paper.specs.Slip.{look};
+ghost use Rattle.paper.specs.Refusals.{check, row, pushedAs, shownAs, fitAs, spaceAs, erasedAs};
+ghost use Rattle.paper.specs.Calls.{pushing, peeking, popping, fitting, measuring, erasing};
+ghost use Rattle.chip.specs.Within.{Within};
+ghost use Rattle.item.specs.Places.{Inside, Room};
+ghost use Rattle.item.specs.Reading.{headAt};
+ghost use Rattle.dock.specs.Codes.{code, rowCode, codeOf, codeOfCheck, shapeOf, isOn, Answers, AnswersWithin, Shows, ShowsWithin};
+ghost use Rattle.dock.specs.Sights.{stateCode, kind, seen, sight, itemCode};
+use chip::Address;
+use chip::Page;
+use item::ItemHeader;
+use item::MaybeHeader;
+use paper::Checked;
+use paper::Erased;
+use paper::Fit;
+use paper::Geometry;
+use paper::Pushed;
+use paper::Refusal;
+use paper::Shape;
+use paper::Shown;
+use paper::Space;
+
+// ---- answers as numbers
+
+// Lengths and sizes are far below 2^32; the remainder keeps the sum within 64 bits for any number.
+fn coded(row: u64, value: usize) -> u64
+    requires { ⌜ row < 4294967296 ⌝ }
+    ensures { λ r. ⌜ r ≡ code row value ⌝ }
+{
+    ((value % 4294967296) as u64) * 4294967296 + row
+}
+
+// The rows of document 01.
+fn refusal_code(refusal: Refusal) -> u64
+    ensures { λ r. ⌜ r ≡ rowCode (row refusal) ⌝ }
+{
+    match refusal {
+        Refusal::ItemTooBig => 2,
+        Refusal::FullStorage => 3,
+        Refusal::BufferTooSmall(n) => coded(4, n),
+        Refusal::Corrupted => 5,
+        Refusal::Cut => 7,
+        Refusal::BadGeometry => 9,
+        Refusal::StartRangeNotAtPageBoundary => 10,
+        Refusal::EndRangeNotAtPageBoundary => 11,
+        Refusal::RangeTooSmall => 12,
+        Refusal::PagesTooSmall => 13,
+        Refusal::WordSizeTooLarge => 14,
+        Refusal::BadWord => 15,
+        Refusal::TooLarge => 16,
+        Refusal::OutsideImage => 17,
+    }
+}
+
+fn pushed_code(answer: Pushed) -> u64
+    ensures { λ r. ⌜ r ≡ codeOf (pushedAs answer) ⌝ }
+{
+    match answer {
+        Pushed::Done => 0,
+        Pushed::Refused(refusal) => refusal_code(refusal),
+    }
+}
+
+fn shown_code(answer: Shown) -> u64
+    ensures { λ r. ⌜ r ≡ codeOf (shownAs answer) ⌝ }
+{
+    match answer {
+        Shown::Slip(n) => coded(0, n),
+        Shown::Empty => 1,
+        Shown::Refused(refusal) => refusal_code(refusal),
+    }
+}
+
+fn fit_code(answer: Fit) -> u64
+    ensures { λ r. ⌜ r ≡ codeOf (fitAs answer) ⌝ }
+{
+    match answer {
+        Fit::Longest(n) => coded(0, n),
+        // No page is that large, so it is no length.
+        Fit::Nothing => coded(0, 0xffff_ffff),
+        Fit::Refused(refusal) => refusal_code(refusal),
+    }
+}
+
+fn space_code(answer: Space) -> u64
+    ensures { λ r. ⌜ r ≡ codeOf (spaceAs answer) ⌝ }
+{
+    match answer {
+        Space::Left(n) => coded(0, n),
+        Space::Refused(refusal) => refusal_code(refusal),
+    }
+}
+
+fn erased_code(answer: Erased) -> u64
+    ensures { λ r. ⌜ r ≡ codeOf (erasedAs answer) ⌝ }
+{
+    match answer {
+        Erased::Done => 0,
+        Erased::Refused(refusal) => refusal_code(refusal),
+    }
+}
+
+// ---- the check
+
+#[no_mangle]
+pub extern "C" fn slipq_check(image_len: usize, start: u32, end: u32, page: u32, word: u32) -> u64
+    ensures { λ r. ⌜ r ≡ codeOfCheck (check «image_len» (shapeOf start end page word)) ⌝ }
+{
+    let s = Shape {
+        start,
+        end,
+        page,
+        word,
+    };
+    let checked = queue::check_geometry(image_len, s);
+    match checked {
+        Checked::Accepted(_) => 0,
+        Checked::Refused(refusal) => refusal_code(refusal),
+    }
+}
+
+// ---- push
+
+// C has no bool of its own: any number but 0 turns overwriting on.
+#[no_mangle]
+pub extern "C" fn slipq_push(
+    image: &mut [u8],
+    start: u32,
+    end: u32,
+    page: u32,
+    word: u32,
+    slip: &[u8],
+    overwrite: u32,
+) -> u64
+    ensures { λ r. ⌜ Answers (shapeOf start end page word) (pushing (now (slip .entry)) (isOn overwrite)) (now (image .entry)) (now (image .exit)) r ⌝ }
+{
+    let s = Shape {
+        start,
+        end,
+        page,
+        word,
+    };
+    pushed_code(queue::push(image, s, slip, overwrite != 0))
+}
+
+#[no_mangle]
+pub extern "C" fn slipq_push_limited(
+    image: &mut [u8],
+    start: u32,
+    end: u32,
+    page: u32,
+    word: u32,
+    slip: &[u8],
+    overwrite: u32,
+    limit: usize,
+) -> u64
+    ensures { λ r. ⌜ AnswersWithin limit (shapeOf start end page word) (pushing (now (slip .entry)) (isOn overwrite)) (now (image .entry)) (now (image .exit)) r ⌝ }
+{
+    let s = Shape {
+        start,
+        end,
+        page,
+        word,
+    };
+    pushed_code(queue::push_limited(image, s, slip, overwrite != 0, limit))
+}
+
+// ---- peek
+
+#[no_mangle]
+pub extern "C" fn slipq_peek(
+    image: &mut [u8],
+    start: u32,
+    end: u32,
+    page: u32,
+    word: u32,
+    buffer: &mut [u8],
+) -> u64
+    ensures { λ r. ⌜ Shows (shapeOf start end page word) (peeking (length (now (buffer .entry)))) (now (image .entry)) (now (image .exit)) (now (buffer .entry)) (now (buffer .exit)) r ⌝ }
+{
+    let s = Shape {
+        start,
+        end,
+        page,
+        word,
+    };
+    shown_code(queue::peek(image, buffer, s))
+}
+
+#[no_mangle]
+pub extern "C" fn slipq_peek_limited(
+    image: &mut [u8],
+    start: u32,
+    end: u32,
+    page: u32,
+    word: u32,
+    buffer: &mut [u8],
+    limit: usize,
+) -> u64
+    ensures { λ r. ⌜ ShowsWithin limit (shapeOf start end page word) (peeking (length (now (buffer .entry)))) (now (image .entry)) (now (image .exit)) (now (buffer .entry)) (now (buffer .exit)) r ⌝ }
+{
+    let s = Shape {
+        start,
+        end,
+        page,
+        word,
+    };
+    shown_code(queue::peek_limited(image, buffer, s, limit))
+}
+
+// ---- pop
+
+#[no_mangle]
+pub extern "C" fn slipq_pop(
+    image: &mut [u8],
+    start: u32,
+    end: u32,
+    page: u32,
+    word: u32,
+    buffer: &mut [u8],
+) -> u64
+    ensures { λ r. ⌜ Shows (shapeOf start end page word) (popping (length (now (buffer .entry)))) (now (image .entry)) (now (image .exit)) (now (buffer .entry)) (now (buffer .exit)) r ⌝ }
+{
+    let s = Shape {
+        start,
+        end,
+        page,
+        word,
+    };
+    shown_code(queue::pop(image, buffer, s))
+}
+
+#[no_mangle]
+pub extern "C" fn slipq_pop_limited(
+    image: &mut [u8],
+    start: u32,
+    end: u32,
+    page: u32,
+    word: u32,
+    buffer: &mut [u8],
+    limit: usize,
+) -> u64
+    ensures { λ r. ⌜ ShowsWithin limit (shapeOf start end page word) (popping (length (now (buffer .entry)))) (now (image .entry)) (now (image .exit)) (now (buffer .entry)) (now (buffer .exit)) r ⌝ }
+{
+    let s = Shape {
+        start,
+        end,
+        page,
+        word,
+    };
+    shown_code(queue::pop_limited(image, buffer, s, limit))
+}
+
+// ---- find_max_fit
+
+#[no_mangle]
+pub extern "C" fn slipq_find_max_fit(
+    image: &mut [u8],
+    start: u32,
+    end: u32,
+    page: u32,
+    word: u32,
+) -> u64
+    ensures { λ r. ⌜ Answers (shapeOf start end page word) fitting (now (image .entry)) (now (image .exit)) r ⌝ }
+{
+    let s = Shape {
+        start,
+        end,
+        page,
+        word,
+    };
+    fit_code(queue::find_max_fit(image, s))
+}
+
+#[no_mangle]
+pub extern "C" fn slipq_find_max_fit_limited(
+    image: &mut [u8],
+    start: u32,
+    end: u32,
+    page: u32,
+    word: u32,
+    limit: usize,
+) -> u64
+    ensures { λ r. ⌜ AnswersWithin limit (shapeOf start end page word) fitting (now (image .entry)) (now (image .exit)) r ⌝ }
+{
+    let s = Shape {
+        start,
+        end,
+        page,
+        word,
+    };
+    fit_code(queue::find_max_fit_limited(image, s, limit))
+}
+
+// ---- space_left
+
+#[no_mangle]
+pub extern "C" fn slipq_space_left(
+    image: &mut [u8],
+    start: u32,
+    end: u32,
+    page: u32,
+    word: u32,
+) -> u64
+    ensures { λ r. ⌜ Answers (shapeOf start end page word) measuring (now (image .entry)) (now (image .exit)) r ⌝ }
+{
+    let s = Shape {
+        start,
+        end,
+        page,
+        word,
+    };
+    space_code(queue::space_left(image, s))
+}
+
+#[no_mangle]
+pub extern "C" fn slipq_space_left_limited(
+    image: &mut [u8],
+    start: u32,
+    end: u32,
+    page: u32,
+    word: u32,
+    limit: usize,
+) -> u64
+    ensures { λ r. ⌜ AnswersWithin limit (shapeOf start end page word) measuring (now (image .entry)) (now (image .exit)) r ⌝ }
+{
+    let s = Shape {
+        start,
+        end,
+        page,
+        word,
+    };
+    space_code(queue::space_left_limited(image, s, limit))
+}
+
+// ---- erase_all
+
+#[no_mangle]
+pub extern "C" fn slipq_erase_all(
+    image: &mut [u8],
+    start: u32,
+    end: u32,
+    page: u32,
+    word: u32,
+) -> u64
+    ensures { λ r. ⌜ Answers (shapeOf start end page word) erasing (now (image .entry)) (now (image .exit)) r ⌝ }
+{
+    let s = Shape {
+        start,
+        end,
+        page,
+        word,
+    };
+    erased_code(queue::erase_all(image, s))
+}
+
+#[no_mangle]
+pub extern "C" fn slipq_erase_all_limited(
+    image: &mut [u8],
+    start: u32,
+    end: u32,
+    page: u32,
+    word: u32,
+    limit: usize,
+) -> u64
+    ensures { λ r. ⌜ AnswersWithin limit (shapeOf start end page word) erasing (now (image .entry)) (now (image .exit)) r ⌝ }
+{
+    let s = Shape {
+        start,
+        end,
+        page,
+        word,
+    };
+    erased_code(queue::erase_all_limited(image, s, limit))
+}
+
+// ---- looks at the image
+
+// A page that is not there lies outside the range, and so does an address that its data has not: row 12 tells both.
+#[no_mangle]
+pub extern "C" fn slipq_page_state(
+    image: &[u8],
+    start: u32,
+    end: u32,
+    page: u32,
+    word: u32,
+    p: u32,
+) -> u64
+    ensures { λ r. ⌜ r ≡ stateCode (shapeOf start end page word) (now (image .entry)) p ⌝ }
+{
+    let s = Shape {
+        start,
+        end,
+        page,
+        word,
+    };
+    let checked = chip::check_geometry(image.len(), s);
+    match checked {
+        Checked::Refused(refusal) => refusal_code(refusal),
+        Checked::Accepted(g) => {
+            if p >= g.pages {
+                return refusal_code(Refusal::RangeTooSmall);
+            }
+            let state = page::get_page_state(image, g, Page(p));
+            coded(0, page::rank(state) as usize)
+        }
+    }
+}
+
+#[no_mangle]
+pub extern "C" fn slipq_item(
+    image: &[u8],
+    start: u32,
+    end: u32,
+    page: u32,
+    word: u32,
+    p: u32,
+    address: u32,
+) -> u64
+    ensures { λ r. ⌜ r ≡ itemCode (shapeOf start end page word) (now (image .entry)) p address ⌝ }
+{
+    let s = Shape {
+        start,
+        end,
+        page,
+        word,
+    };
+    let checked = chip::check_geometry(image.len(), s);
+    match checked {
+        Checked::Refused(refusal) => refusal_code(refusal),
+        Checked::Accepted(g) => {
+            if p >= g.pages {
+                return refusal_code(Refusal::RangeTooSmall);
+            }
+            item_on_page(image, g, Page(p), Address(address))
+        }
+    }
+}
+
+// The end of the data is an address too: a scan that comes to it sees nothing more.
+fn item_on_page(image: &[u8], g: Geometry, p: Page, at: Address) -> u64
+    requires { ⌜ Within g (length (now image)) × (p .0 < g .pages) ⌝ }
+    ensures { λ r. ⌜ r ≡ sight g (now (image .entry)) (p .0) (at .0) ⌝ }
+{
+    let first = chip::page_data_start_address(g, p);
+    let end = chip::page_data_end_address(g, p);
+    if at.0 < first.0 {
+        return refusal_code(Refusal::RangeTooSmall);
+    }
+    if end.0 < at.0 {
+        return refusal_code(Refusal::RangeTooSmall);
+    }
+    coded(0, item_at(image, g, at, end))
+}
+
+// The kind takes the value's three low bits, and the length those above.
+fn item_at(image: &[u8], g: Geometry, at: Address, end: Address) -> usize
+    requires { ⌜ Inside g (length (now image)) (at .0) (end .0) ⌝ }
+    ensures { λ r. ⌜ r ≡ seen (at .0) (look g (part (at .0) (end .0 - at .0) (now (image .entry)))) ⌝ }
+{
+    let found = ItemHeader::read_new(image, g, at, end);
+    match found {
+        MaybeHeader::Nothing => 0,
+        MaybeHeader::Bad => 1,
+        MaybeHeader::Accepted(header) => {
+            let length = header.length as usize;
+            kind_of(image, g, at, header) + 8 * length
+        }
+    }
+}
+
+// Told by the checksum over the image itself: read_item would want a buffer for the payload.
+fn kind_of(image: &[u8], g: Geometry, at: Address, header: ItemHeader) -> usize
+    requires { ⌜ Room g (length (now image)) (at .0) (header .length) ⌝ }
+    ensures { λ r. ⌜ (r ≡ kind (headAt g (now (image .entry)) (at .0) header)) × (r ≤ 4) ⌝ }
+{
+    if header.crc == 0 {
+        return 3;
+    }
+    let from = ItemHeader::data_address(g, at).0 as usize;
+    let to = from + (header.length as usize);
+    if checksum::adapted_crc32(&image[from..to]) == header.crc {
+        return 2;
+    }
+    4
+}

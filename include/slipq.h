@@ -1,0 +1,167 @@
+/*
+ * slipq: a queue of slips on NOR flash, over an image in memory.
+ *
+ * The functions of libdock.a (made by `rt staticlib dock`; link with -ldock).
+ * Plain C89 but for <stdint.h>; fit for C++.
+ *
+ *     uint8_t image[4 * 256];
+ *     uint8_t buffer[256];
+ *     uint64_t answer;
+ *
+ *     memset(image, 0xFF, sizeof image);
+ *     answer = slipq_push(image, sizeof image, 0, sizeof image, 256, 4,
+ *                         (const uint8_t *)"Hofer", 5, 0);
+ *     if (SLIPQ_ROW(answer) != SLIPQ_DONE) ...
+ *     answer = slipq_pop(image, sizeof image, 0, sizeof image, 256, 4,
+ *                        buffer, sizeof buffer);
+ *     if (SLIPQ_ROW(answer) == SLIPQ_DONE)
+ *         fwrite(buffer, 1, SLIPQ_VALUE(answer), stdout);
+ *
+ * What every function takes
+ *   image, image_len   the lent image. An address is a place in it.
+ *   start, end         the range: addresses from start on, up to and without end.
+ *   page, word         bytes of a page, and of a word: the unit of a store.
+ *   Bytes of the image outside the range never change and have no say.
+ *
+ * What a caller has to keep
+ *   Each pointer is valid for the length that follows it, and is not null even
+ *   where that length is 0. Image, slip and buffer do not overlap. Apart from
+ *   that every function takes any numbers and any bytes, and ends.
+ *
+ * What every function answers
+ *   A row of document 01 (SLIPQ_ROW: 0 done, 1 empty, otherwise a refusal) and
+ *   the value that comes with it (SLIPQ_VALUE), 0 where there is none. The shape
+ *   is checked first, by rows 9 to 17 in their order; such a refusal changes
+ *   nothing.
+ *
+ * Power cuts
+ *   A store is one word that is ANDed into the image, or one page that is set to
+ *   FF. The second form of a call, slipq_X_limited, makes at most `limit` stores:
+ *   with fewer than the call needs it answers SLIPQ_CUT, and image and buffer are
+ *   as a power cut after so many stores leaves them. Otherwise it is the call
+ *   without a limit.
+ */
+#ifndef SLIPQ_H
+#define SLIPQ_H
+
+#include <stddef.h>
+#include <stdint.h>
+
+#ifdef __cplusplus
+extern "C" {
+#endif
+
+/* An answer's row, and the value that comes with it. */
+#define SLIPQ_ROW(answer) ((uint32_t)((answer) & 0xFFFFFFFFu))
+#define SLIPQ_VALUE(answer) ((uint32_t)((answer) >> 32))
+
+/* The rows. */
+#define SLIPQ_DONE 0u
+#define SLIPQ_EMPTY 1u /* peek or pop met no present slip */
+
+/* A call's own refusals. */
+#define SLIPQ_ITEM_TOO_BIG 2u     /* length over 65535, or over page - 2 words - header */
+#define SLIPQ_FULL_STORAGE 3u     /* no room: the next page, or the sole page, has a live slip */
+#define SLIPQ_BUFFER_TOO_SMALL 4u /* the value is the size needed */
+#define SLIPQ_CORRUPTED 5u        /* a step failed, and again after one repair */
+#define SLIPQ_CUT 7u              /* the store limit is used up */
+
+/* Refusals of a shape, in the order in which they are tested. */
+#define SLIPQ_BAD_GEOMETRY 9u                     /* page or word is 0, or page not a multiple of word */
+#define SLIPQ_START_RANGE_NOT_AT_PAGE_BOUNDARY 10u /* start not a multiple of page */
+#define SLIPQ_END_RANGE_NOT_AT_PAGE_BOUNDARY 11u   /* end not a multiple of page */
+#define SLIPQ_RANGE_TOO_SMALL 12u                 /* less than one page, or end below start */
+#define SLIPQ_PAGES_TOO_SMALL 13u                 /* page under 3 words + header */
+#define SLIPQ_WORD_SIZE_TOO_LARGE 14u             /* word over 32 */
+#define SLIPQ_BAD_WORD 15u                        /* word not 4, 8, 16 or 32 */
+#define SLIPQ_TOO_LARGE 16u                       /* page over 4096, or over 64 pages */
+#define SLIPQ_OUTSIDE_IMAGE 17u                   /* the range ends beyond the image */
+
+/* The value of a done slipq_find_max_fit where not even the empty slip fits. */
+#define SLIPQ_NO_FIT 0xFFFFFFFFu
+
+/* Values of slipq_page_state. */
+#define SLIPQ_PAGE_OPEN 0u      /* neither mark is set */
+#define SLIPQ_PAGE_PARTIAL 1u   /* the first mark is set */
+#define SLIPQ_PAGE_CLOSED 2u    /* both marks are set */
+#define SLIPQ_PAGE_CORRUPTED 3u /* the last mark alone is set: an erase was interrupted */
+
+/* The value of slipq_item: what stands there, and a slip's length. */
+#define SLIPQ_ITEM_KIND(value) ((uint32_t)((value) & 7u))
+#define SLIPQ_ITEM_LENGTH(value) ((uint32_t)((value) >> 3))
+#define SLIPQ_ITEM_END 0u       /* nothing more: the scan stops here */
+#define SLIPQ_ITEM_NO_HEADER 1u /* no good header: the scan goes on one word */
+#define SLIPQ_ITEM_WAITS 2u     /* a slip that waits */
+#define SLIPQ_ITEM_POPPED 3u    /* a slip that was popped */
+#define SLIPQ_ITEM_TORN 4u      /* a slip that was cut short: its checksum is wrong */
+
+/* Tests a shape for an image of so many bytes: done, or row 9 to 17. The calls make this test themselves. */
+uint64_t slipq_check(size_t image_len, uint32_t start, uint32_t end, uint32_t page, uint32_t word);
+
+/*
+ * Adds a slip behind the last one. `overwrite`: 0 is off; with any other number a full queue makes room by erasing its oldest page.
+ * Rows: 0; 2, the image is unchanged; 3 (never when overwriting), repairs and the current page's start mark may be new, nothing
+ * else; 5, repairs and earlier stores stay.
+ */
+uint64_t slipq_push(uint8_t *image, size_t image_len, uint32_t start, uint32_t end, uint32_t page, uint32_t word,
+                    const uint8_t *slip, size_t slip_len, uint32_t overwrite);
+uint64_t slipq_push_limited(uint8_t *image, size_t image_len, uint32_t start, uint32_t end, uint32_t page, uint32_t word,
+                            const uint8_t *slip, size_t slip_len, uint32_t overwrite, size_t limit);
+
+/*
+ * Shows the oldest slip: the buffer's first `value` bytes. The slip stays in the queue; the image may change all the same, by
+ * repairs and by erasing pages that have no slip left.
+ * Rows: 0, the value is the slip's length; 1; 4, the value is the size needed: the slip's length rounded up to a word; 5. Buffer: the
+ * rounded payloads that were read, torn ones too, were copied to its front one after another; bytes past the longest stay.
+ */
+uint64_t slipq_peek(uint8_t *image, size_t image_len, uint32_t start, uint32_t end, uint32_t page, uint32_t word, uint8_t *buffer,
+                    size_t buffer_len);
+uint64_t slipq_peek_limited(uint8_t *image, size_t image_len, uint32_t start, uint32_t end, uint32_t page, uint32_t word,
+                            uint8_t *buffer, size_t buffer_len, size_t limit);
+
+/* Shows the oldest slip as slipq_peek does, and takes it from the queue. The same rows; a refused pop takes nothing. */
+uint64_t slipq_pop(uint8_t *image, size_t image_len, uint32_t start, uint32_t end, uint32_t page, uint32_t word, uint8_t *buffer,
+                   size_t buffer_len);
+uint64_t slipq_pop_limited(uint8_t *image, size_t image_len, uint32_t start, uint32_t end, uint32_t page, uint32_t word,
+                           uint8_t *buffer, size_t buffer_len, size_t limit);
+
+/*
+ * The crate's find_max_fit: the bytes that a page or the current page's rest has for the next slip.
+ * Rows: 0, the value is that number, or SLIPQ_NO_FIT; 5. Repairs may change the image.
+ */
+uint64_t slipq_find_max_fit(uint8_t *image, size_t image_len, uint32_t start, uint32_t end, uint32_t page, uint32_t word);
+uint64_t slipq_find_max_fit_limited(uint8_t *image, size_t image_len, uint32_t start, uint32_t end, uint32_t page, uint32_t word,
+                                    size_t limit);
+
+/*
+ * The crate's space_left: the bytes left over all pages, headers not counted off.
+ * Rows: 0, the value is that number; 5. Repairs may change the image.
+ */
+uint64_t slipq_space_left(uint8_t *image, size_t image_len, uint32_t start, uint32_t end, uint32_t page, uint32_t word);
+uint64_t slipq_space_left_limited(uint8_t *image, size_t image_len, uint32_t start, uint32_t end, uint32_t page, uint32_t word,
+                                  size_t limit);
+
+/* Sets every page of the range to FF, in page order; the queue is empty then. Row 0. */
+uint64_t slipq_erase_all(uint8_t *image, size_t image_len, uint32_t start, uint32_t end, uint32_t page, uint32_t word);
+uint64_t slipq_erase_all_limited(uint8_t *image, size_t image_len, uint32_t start, uint32_t end, uint32_t page, uint32_t word,
+                                 size_t limit);
+
+/* The state of page p, counted from 0: row 0 and SLIPQ_PAGE_..; a page that is not there is row 12. Nothing changes. */
+uint64_t slipq_page_state(const uint8_t *image, size_t image_len, uint32_t start, uint32_t end, uint32_t page, uint32_t word,
+                          uint32_t p);
+
+/*
+ * What the scan of page p sees at an address: row 0 and SLIPQ_ITEM_KIND, SLIPQ_ITEM_LENGTH of the value. A page that is not there, or
+ * an address outside its data (the page without its first and last word; the end of the data counts as inside, and nothing more stands
+ * there), is row 12. Nothing changes.
+ * To see all of a page begin behind its first word. From a slip go on by its header (8 bytes rounded up to a word) and its length
+ * rounded up to a word, from SLIPQ_ITEM_NO_HEADER by a word; stop at SLIPQ_ITEM_END and at the page's last word.
+ */
+uint64_t slipq_item(const uint8_t *image, size_t image_len, uint32_t start, uint32_t end, uint32_t page, uint32_t word, uint32_t p,
+                    uint32_t address);
+
+#ifdef __cplusplus
+}
+#endif
+
+#endif

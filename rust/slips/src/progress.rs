@@ -1,0 +1,46 @@
+//! One line that says how far a long run has come: rewritten in place on a terminal, otherwise a new line now and then.
+use std::io::{IsTerminal, Write, stderr};
+use std::time::{Duration, Instant};
+
+pub struct Progress {
+    is_terminal: bool,
+    last: Instant,
+    every: Duration,
+    /// whether a line stands on the terminal that has to be wiped
+    is_shown: bool,
+}
+
+impl Progress {
+    pub fn new() -> Progress {
+        let is_terminal = stderr().is_terminal();
+        let seconds = if is_terminal { 0.1 } else { 10.0 };
+        Progress {
+            is_terminal,
+            last: Instant::now(),
+            every: Duration::from_secs_f64(seconds),
+            is_shown: false,
+        }
+    }
+
+    /// Shows a line, if it is time.
+    pub fn show(&mut self, line: impl FnOnce() -> String) {
+        if self.last.elapsed() < self.every {
+            return;
+        }
+        self.last = Instant::now();
+        // progress that cannot be shown is no reason to stop
+        let _ = if self.is_terminal {
+            self.is_shown = true;
+            write!(stderr(), "\r\x1b[K{}", line())
+        } else {
+            writeln!(stderr(), "{}", line())
+        };
+    }
+
+    /// Wipes the line, before other output.
+    pub fn end(&mut self) {
+        if std::mem::take(&mut self.is_shown) {
+            let _ = write!(stderr(), "\r\x1b[K");
+        }
+    }
+}
