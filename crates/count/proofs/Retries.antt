@@ -43,7 +43,8 @@ module _ (g : Geometry) (b : Budget) (im : List ℕ) (count : List ℕ → Try U
     unfolding counted
     count-again t =
         let z : record { cut = false; budget = s .budget } ≡ s = ap (λ (c : Bool). record { cut = c; budget = s .budget }) (sym t) in
-        rw (← z) (bind-then next (repair-again step tt first tt e refl d t (ran-none g (s .budget) o (count o))) refl (ran-none g (s .budget) o (answered (count o))))
+        let again = repair-again step tt first tt e refl d t (ran-none g (s .budget) o (count o)) in
+        rw (← z) (bind-then next again refl (ran-none g (s .budget) o (answered (count o))))
 
 -- ---- space_left has a number, or is refused
 

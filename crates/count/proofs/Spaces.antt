@@ -38,7 +38,8 @@ module _ (g : Geometry) (im : List ℕ) (p : ℕ) where
   space-closed Closed e t = rw (not-false (anyLive (pageWalk g im p .heads)) e)
   space-closed Corrupted e t = absurd (false≢true t)
 
-  pub space-partial : (s : PageState) → emptyBy g im p s ≡ false → same s Closed ≡ false → same s Corrupted ≡ false → spaceBy g im p s ≡ spaceBy g im p PartialOpen
+  pub space-partial : (s : PageState) → emptyBy g im p s ≡ false → same s Closed ≡ false → same s Corrupted ≡ false
+      → spaceBy g im p s ≡ spaceBy g im p PartialOpen
   unfolding emptyBy
   space-partial Open e t n = absurd (false≢true (sym e))
   space-partial PartialOpen e t n = refl

@@ -28,23 +28,20 @@ calculate-page-size-requires c κs = c .before .before .before .before .before .
 
 returns : tie.Need-returns
 returns c =
-    let a = c .before .before .before .before .before .before .before .before .args in
-    let d = data-in (a .g) (a .page .0) _ (c .before .before .before .before .before .before .before .before .pre .0) (c .before .before .before .before .before .before .before .before .pre .1) in
+    let d = data-in (c .before .before .before .before .before .before .before .before .args .g) (c .before .before .before .before .before .before .before .before .args .page .0) _ (c .before .before .before .before .before .before .before .before .pre .0) (c .before .before .before .before .before .before .before .before .pre .1) in
     let q = c .calculate-page-size .ensures in
     let e = sym (c .before .before .before .before .before .available-data-bytes .ensures) ∙ c .before .before .before .enum-told2 .given .1 in
     record { is = λ n. space-popped (c .before .before .before .before .before .before .find-free-in-page .ensures) e (sym (c .before .before .is-page-empty .ensures) ∙ c .before .if1 .taken) ∙ ap gives (sym q); small = omega arith }
 
 returns-2 : tie.Need-returns-2
 returns-2 c =
-    let a = c .before .before .before .before .before .args in
-    let d = data-in (a .g) (a .page .0) _ (c .before .before .before .before .before .pre .0) (c .before .before .before .before .before .pre .1) in
+    let d = data-in (c .before .before .before .before .before .args .g) (c .before .before .before .before .before .args .page .0) _ (c .before .before .before .before .before .pre .0) (c .before .before .before .before .before .pre .1) in
     let f = c .before .before .before .find-free-in-page .ensures in
     record { is = λ n. space-served f _ (sym (c .before .before .available-data-bytes .ensures) ∙ c .enum-told .given .1); small = omega arith }
 
 returns-3 : tie.Need-returns-3
 returns-3 c =
-    let a = c .before .before .before .before .before .before .before .args in
-    let d = data-in (a .g) (a .page .0) _ (c .before .before .before .before .before .before .before .pre .0) (c .before .before .before .before .before .before .before .pre .1) in
+    let d = data-in (c .before .before .before .before .before .before .before .args .g) (c .before .before .before .before .before .before .before .args .page .0) _ (c .before .before .before .before .before .before .before .pre .0) (c .before .before .before .before .before .before .before .pre .1) in
     let f = c .before .before .before .before .before .find-free-in-page .ensures in
     let e = sym (c .before .before .before .before .available-data-bytes .ensures) ∙ c .before .before .enum-told2 .given .1 in
     record { is = λ n. space-live f e (sym (c .before .is-page-empty .ensures) ∙ c .if1 .left); small = omega arith }

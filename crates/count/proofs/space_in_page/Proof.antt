@@ -16,27 +16,23 @@ calculate-page-size-requires c κs = c .before .before .before .pre .0 .good
 
 returns : tie.Need-returns
 returns c =
-    let a = c .before .before .before .before .args in
-    let d = data-in (a .g) (a .page .0) _ (c .before .before .before .before .pre .0) (c .before .before .before .before .pre .1) in
+    let d = data-in (c .before .before .before .before .args .g) (c .before .before .before .before .args .page .0) _ (c .before .before .before .before .pre .0) (c .before .before .before .before .pre .1) in
     let q = c .calculate-page-size .ensures in
-    record { is = λ n. space-empty (a .g) (a .image .now) (a .page .0) (a .state) (sym (c .before .before .is-page-empty .ensures) ∙ c .before .if1 .taken) ∙ ap gives (sym q); small = omega arith }
+    record { is = λ n. space-empty _ _ _ _ (sym (c .before .before .is-page-empty .ensures) ∙ c .before .if1 .taken) ∙ ap gives (sym q); small = omega arith }
 
 is-same-requires : tie.Need-is-same-requires
 is-same-requires c κs = search needs
 
 returns-2 : tie.Need-returns-2
-returns-2 c =
-    let a = c .before .before .before .before .before .args in
-    record { is = λ n. space-closed (a .g) (a .image .now) (a .page .0) (a .state) (sym (c .before .before .before .is-page-empty .ensures) ∙ c .before .before .if1 .left) (sym (c .before .is-same .ensures) ∙ c .if2 .taken); small = omega arith }
+returns-2 c = record { is = λ n. space-closed _ _ _ _ (sym (c .before .before .before .is-page-empty .ensures) ∙ c .before .before .if1 .left) (sym (c .before .is-same .ensures) ∙ c .if2 .taken); small = omega arith }
 
 space-behind-requires : tie.Need-space-behind-requires
 space-behind-requires c κs = c .before .before .before .before .before .pre
 
 returns-3 : tie.Need-returns-3
 returns-3 c =
-    let a = c .before .before .before .before .before .before .args in
     let q = c .space-behind .ensures in
-    record { is = λ n. space-partial (a .g) (a .image .now) (a .page .0) (a .state) (sym (c .before .before .before .before .is-page-empty .ensures) ∙ c .before .before .before .if1 .left) (sym (c .before .before .is-same .ensures) ∙ c .before .if2 .left) n ∙ q .is refl; small = q .small }
+    record { is = λ n. space-partial _ _ _ _ (sym (c .before .before .before .before .is-page-empty .ensures) ∙ c .before .before .before .if1 .left) (sym (c .before .before .is-same .ensures) ∙ c .before .if2 .left) n ∙ q .is refl; small = q .small }
 
 pub space-in-page-spec : {M : Type 1} → statement M
 space-in-page-spec =
