@@ -4,3 +4,4 @@ pub mod Turning
 pub mod Leaving
 pub mod Beginning
 pub mod Popping
+pub mod OtherCases

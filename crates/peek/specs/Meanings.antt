@@ -4,7 +4,7 @@ use mathlib.Core.List.{List}
 use Prim.Native.Nat.{ℕ, _<_}
 use Rattle.paper.specs.declared.Geometry.{Geometry}
 use Rattle.paper.specs.declared.Shown.{Shown}
-use Rattle.paper.specs.Chip.{Try, fails, gives}
+use Rattle.paper.specs.Chip.{Try, fails, gives, settled}
 use Rattle.paper.specs.Scan.{Head}
 use Rattle.paper.specs.Refusals.{shownAs}
 use Rattle.paper.specs.Calls.{passed, long, onPage, afterPage, Outcome, nothing, short, this, spoilt, shownBy}
@@ -20,8 +20,6 @@ use Rattle.peek.specs.declared.Met.{Met}
 use Rattle.peek.specs.declared.Met.the-variants as met
 use Rattle.peek.specs.declared.Found.{Found}
 use Rattle.peek.specs.declared.Found.the-variants as found
-use Rattle.peek.specs.declared.Tried.{Tried}
-use Rattle.peek.specs.declared.Tried.the-variants as tried
 use Rattle.peek.specs.declared.Turn.{Turn}
 use Rattle.peek.specs.declared.Turn.the-variants as turn
 use Rattle.peek.specs.Turns.{Going, goes, ends}
@@ -47,19 +45,21 @@ metAs g im met.Passed = passed
 metAs g im (met.TooSmall n) = long n
 metAs g im (met.Present x) = calls.met (headOf g im x)
 
-abbrev pub foundAs : Geometry → List ℕ → Found → Outcome
-foundAs g im found.Nothing = nothing
-foundAs g im (found.TooSmall n) = short n
-foundAs g im (found.Present x) = this (headOf g im x)
-foundAs g im found.Corrupted = spoilt
+-- as the answer of a step
+abbrev pub triedAs : Geometry → List ℕ → Found → Try calls.Stand Outcome
+triedAs g im found.Nothing = gives nothing
+triedAs g im (found.TooSmall n) = gives (short n)
+triedAs g im (found.Present x) = gives (this (headOf g im x))
+triedAs g im found.Corrupted = gives spoilt
+triedAs g im (found.Failed s) = fails (standAs s)
 
-abbrev pub triedAs : Geometry → List ℕ → Tried → Try calls.Stand Outcome
-triedAs g im (tried.Fails s) = fails (standAs s)
-triedAs g im (tried.Gives f) = gives (foundAs g im f)
+-- as that of the search
+abbrev pub foundAs : Geometry → List ℕ → Found → Outcome
+foundAs g im f = settled spoilt (triedAs g im f)
 
 abbrev pub turnAs : Geometry → List ℕ → Turn → Going
 turnAs g im (turn.Goes s) = goes (standAs s)
-turnAs g im (turn.Ends t) = ends (triedAs g im t)
+turnAs g im (turn.Ends f) = ends (triedAs g im f)
 
 -- ---- that what they name lies in the range, and in an image of n bytes
 
@@ -80,14 +80,11 @@ FoundIn g n found.Nothing = Unit {0}
 FoundIn g n (found.TooSmall k) = Unit {0}
 FoundIn g n (found.Present x) = ItemIn g n x
 FoundIn g n found.Corrupted = Unit {0}
-
-abbrev pub TriedIn : Geometry → ℕ → Tried → Type 0
-TriedIn g n (tried.Fails s) = StandIn g s
-TriedIn g n (tried.Gives f) = FoundIn g n f
+FoundIn g n (found.Failed s) = StandIn g s
 
 abbrev pub TurnIn : Geometry → ℕ → Turn → Type 0
 TurnIn g n (turn.Goes s) = StandIn g s
-TurnIn g n (turn.Ends t) = TriedIn g n t
+TurnIn g n (turn.Ends f) = FoundIn g n f
 
 -- ---- what is shown
 

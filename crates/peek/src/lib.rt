@@ -3,9 +3,8 @@
 ghost use mathlib.Core.Path.{_≡_};
 ghost use Prim.Native.Nat.{_<_};
 ghost use lib.ListN.{length};
-ghost use Rattle.paper.specs.Chip.{gives};
 ghost use Rattle.paper.specs.Pages.{oldest};
-ghost use Rattle.paper.specs.Calls.{readHeads, nextStep, startStep, withRepair, searchOn, popped};
+ghost use Rattle.paper.specs.Calls.{readHeads, nextStep, startStep, withRepair, popped};
 ghost use Rattle.paper.specs.Calls as calls;
 ghost use Rattle.paper.specs.Refusals.{shownAs};
 ghost use Rattle.chip.specs.Within.{Within};
@@ -14,7 +13,7 @@ ghost use Rattle.item.specs.Places.{Inside};
 ghost use Rattle.item.specs.Scanning.{walkFrom};
 ghost use Rattle.page.specs.Searches.{chosenAs};
 ghost use Rattle.peek.specs.Turns.{readTurn, leaveTurn, turnFrom};
-ghost use Rattle.peek.specs.Meanings.{standAs, metAs, foundAs, triedAs, turnAs, StandIn, ChosenIn, MetIn, FoundIn, TriedIn, TurnIn, Shows};
+ghost use Rattle.peek.specs.Meanings.{standAs, metAs, foundAs, triedAs, turnAs, StandIn, ChosenIn, MetIn, FoundIn, TurnIn, Shows};
 ghost use Rattle.peek.specs.Searching.{Copies, Stores, ComesTo};
 use chip::Address;
 use chip::Budget;
@@ -42,24 +41,20 @@ enum Met {
     Present(Item),
 }
 
-// What a search comes to.
+// What a search comes to. It is Corrupted where its start was not found, and Failed where it met a Corrupted page, with the stand from which
+// it may be run again.
 enum Found {
     Nothing,
     TooSmall(usize),
     Present(Item),
     Corrupted,
-}
-
-// What a step of the search comes to: it failed with Corrupted, and where it stood; or it gives what it found.
-enum Tried {
-    Fails(Stand),
-    Gives(Found),
+    Failed(Stand),
 }
 
 // What one turn of the search comes to: it goes on from another stand, or ends.
 enum Turn {
     Goes(Stand),
-    Ends(Tried),
+    Ends(Found),
 }
 
 // What each part of a call comes to, and what it spent. Where it was cut, what stands beside `spent` has no say.
@@ -71,11 +66,6 @@ struct Starting {
 struct Turned {
     spent: Spent,
     turn: Turn,
-}
-
-struct Stepped {
-    spent: Spent,
-    tried: Tried,
 }
 
 struct Searched {
@@ -90,7 +80,7 @@ pub struct Showing {
 
 // ---- the calls
 
-// Peek stores too: a repair, and erases of pages that it left because nothing in them is present.
+// Peek stores too: repairs, and the erases of pages that it left because nothing in them is present.
 pub fn peek(image: &mut [u8], buffer: &mut [u8], b: Budget, g: Geometry) -> Showing
     requires { ⌜ Within g (length (now image)) ⌝ }
     ensures { λ r. ⌜ Showed g b (calls.peek g (now (image .entry)) (length (now (buffer .entry)))) (now (image .entry)) (now (image .exit)) (now (buffer .entry)) (now (buffer .exit)) (r .spent) (shownAs (r .answer)) ⌝ }
@@ -102,6 +92,7 @@ pub fn peek(image: &mut [u8], buffer: &mut [u8], b: Budget, g: Geometry) -> Show
     Showing { spent, answer }
 }
 
+// A search that was cut stores nothing more: the first k stores of a call are those of its search and then those of the header.
 pub fn pop(image: &mut [u8], buffer: &mut [u8], b: Budget, g: Geometry) -> Showing
     requires { ⌜ Within g (length (now image)) ⌝ }
     ensures { λ r. ⌜ Showed g b (calls.pop g (now (image .entry)) (length (now (buffer .entry)))) (now (image .entry)) (now (image .exit)) (now (buffer .entry)) (now (buffer .exit)) (r .spent) (shownAs (r .answer)) ⌝ }
@@ -128,28 +119,24 @@ fn shown_by(found: Found) -> Shown
         Found::TooSmall(size) => Shown::Refused(Refusal::BufferTooSmall(size)),
         Found::Present(item) => Shown::Slip(item.header.length as usize),
         Found::Corrupted => Shown::Refused(Refusal::Corrupted),
+        Found::Failed(_) => Shown::Refused(Refusal::Corrupted),
     }
 }
 
-// QueueIteratorEntry::pop
+// QueueIteratorEntry::pop, for whatever was found.
 fn pop_found(image: &mut [u8], b: Budget, g: Geometry, found: Found) -> Spent
     requires { ⌜ FoundIn g (length (now image)) found ⌝ }
     ensures { λ r. ⌜ Did g b (popped g (foundAs g (now (image .entry)) found)) (now (image .entry)) (now (image .exit)) r ⌝ }
 {
-    let kept = Spent {
-        cut: false,
-        budget: b,
+    let Found::Present(item) = found else {
+        return Spent {
+            cut: false,
+            budget: b,
+        };
     };
-    match found {
-        Found::Nothing => kept,
-        Found::TooSmall(_) => kept,
-        Found::Present(item) => {
-            let header = item.header;
-            let address = item.address;
-            header.erase_data(image, b, g, address)
-        }
-        Found::Corrupted => kept,
-    }
+    let header = item.header;
+    let address = item.address;
+    header.erase_data(image, b, g, address)
 }
 
 // ---- the search, which has two steps, each with its repair
@@ -172,29 +159,14 @@ fn search(image: &mut [u8], buffer: &mut [u8], b: Budget, g: Geometry) -> Search
             spent,
             found: Found::Corrupted,
         },
-        Chosen::At(oldest) => search_from(image, buffer, spent.budget, g, oldest),
-    }
-}
-
-fn search_from(
-    image: &mut [u8],
-    buffer: &mut [u8],
-    b: Budget,
-    g: Geometry,
-    oldest: Page,
-) -> Searched
-    requires { ⌜ Within g (length (now image)) × (oldest .0 < g .pages) ⌝ }
-    ensures { λ r. ⌜ ComesTo (foundAs g) (FoundIn g) g b (searchOn g (length (now (buffer .entry))) (gives (oldest .0)) (now (image .entry))) (now (image .entry)) (now (image .exit)) (now (buffer .entry)) (now (buffer .exit)) (r .spent) (r .found) ⌝ }
-{
-    let stepped = next(image, buffer, b, g, oldest, Stand::OnPage(oldest));
-    let spent = stepped.spent;
-    let tried = stepped.tried;
-    match tried {
-        Tried::Fails(_) => Searched {
-            spent,
-            found: Found::Corrupted,
-        },
-        Tried::Gives(found) => Searched { spent, found },
+        Chosen::At(oldest) => next(
+            image,
+            buffer,
+            spent.budget,
+            g,
+            oldest,
+            Stand::OnPage(oldest),
+        ),
     }
 }
 
@@ -209,7 +181,7 @@ fn find_start_address(image: &[u8], g: Geometry) -> Chosen
     page::find_oldest_page(table, g)
 }
 
-// QueueIterator::new
+// QueueIterator::new: the states are read anew after a repair.
 fn find_start(image: &mut [u8], b: Budget, g: Geometry) -> Starting
     requires { ⌜ Within g (length (now image)) ⌝ }
     ensures { λ r. ⌜ Stores (λ im. chosenAs) (λ n. ChosenIn g) g b (withRepair g (startStep g) tt (now (image .entry))) (now (image .entry)) (now (image .exit)) (r .spent) (r .start) ⌝ }
@@ -247,29 +219,27 @@ fn next(
     g: Geometry,
     oldest: Page,
     stand: Stand,
-) -> Stepped
+) -> Searched
     requires { ⌜ Within g (length (now image)) × StandIn g stand ⌝ }
-    ensures { λ r. ⌜ ComesTo (triedAs g) (TriedIn g) g b (withRepair g (nextStep g (length (now (buffer .entry))) (oldest .0)) (standAs stand) (now (image .entry))) (now (image .entry)) (now (image .exit)) (now (buffer .entry)) (now (buffer .exit)) (r .spent) (r .tried) ⌝ }
+    ensures { λ r. ⌜ ComesTo (triedAs g) (FoundIn g) g b (withRepair g (nextStep g (length (now (buffer .entry))) (oldest .0)) (standAs stand) (now (image .entry))) (now (image .entry)) (now (image .exit)) (now (buffer .entry)) (now (buffer .exit)) (r .spent) (r .found) ⌝ }
 {
-    let stepped = next_inner(image, buffer, b, g, oldest, stand);
-    let spent = stepped.spent;
+    let searched = next_inner(image, buffer, b, g, oldest, stand);
+    let spent = searched.spent;
     if spent.cut {
-        return stepped;
+        return searched;
     }
-    let tried = stepped.tried;
-    match tried {
-        Tried::Gives(_) => stepped,
-        Tried::Fails(stood) => {
-            let repaired = page::try_general_repair(image, spent.budget, g);
-            if repaired.cut {
-                return Stepped {
-                    spent: repaired,
-                    tried: Tried::Fails(stood),
-                };
-            }
-            next_inner(image, buffer, repaired.budget, g, oldest, stood)
-        }
+    let found = searched.found;
+    let Found::Failed(stood) = found else {
+        return searched;
+    };
+    let repaired = page::try_general_repair(image, spent.budget, g);
+    if repaired.cut {
+        return Searched {
+            spent: repaired,
+            found: Found::Failed(stood),
+        };
     }
+    next_inner(image, buffer, repaired.budget, g, oldest, stood)
 }
 
 // The Rust's loop has no bound. Two turns for each page are enough, since the search ends before it is back at the oldest page.
@@ -280,9 +250,9 @@ fn next_inner(
     g: Geometry,
     oldest: Page,
     start: Stand,
-) -> Stepped
+) -> Searched
     requires { ⌜ Within g (length (now image)) × StandIn g start ⌝ }
-    ensures { λ r. ⌜ ComesTo (triedAs g) (TriedIn g) g b (nextStep g (length (now (buffer .entry))) (oldest .0) (standAs start) (now (image .entry))) (now (image .entry)) (now (image .exit)) (now (buffer .entry)) (now (buffer .exit)) (r .spent) (r .tried) ⌝ }
+    ensures { λ r. ⌜ ComesTo (triedAs g) (FoundIn g) g b (nextStep g (length (now (buffer .entry))) (oldest .0) (standAs start) (now (image .entry))) (now (image .entry)) (now (image .exit)) (now (buffer .entry)) (now (buffer .exit)) (r .spent) (r .found) ⌝ }
 {
     let mut budget = b;
     let mut stand = start;
@@ -291,13 +261,13 @@ fn next_inner(
         let turned = take_turn(image, buffer, budget, g, oldest, stand);
         let spent = turned.spent;
         if spent.cut {
-            let tried = Tried::Gives(Found::Nothing);
-            return Stepped { spent, tried };
+            let found = Found::Nothing;
+            return Searched { spent, found };
         }
         let turn = turned.turn;
         match turn {
-            Turn::Ends(tried) => {
-                return Stepped { spent, tried };
+            Turn::Ends(found) => {
+                return Searched { spent, found };
             }
             Turn::Goes(further) => {
                 budget = spent.budget;
@@ -307,8 +277,8 @@ fn next_inner(
         }
     }
     let spent = Spent { cut: false, budget };
-    let tried = Tried::Gives(Found::Nothing);
-    Stepped { spent, tried }
+    let found = Found::Nothing;
+    Searched { spent, found }
 }
 
 fn take_turn(
@@ -348,8 +318,8 @@ fn read_page(image: &[u8], buffer: &mut [u8], g: Geometry, p: Page) -> Turn
     let met = read_items(image, buffer, g, start, end);
     match met {
         Met::Passed => Turn::Goes(Stand::AfterPage(p)),
-        Met::TooSmall(size) => Turn::Ends(Tried::Gives(Found::TooSmall(size))),
-        Met::Present(item) => Turn::Ends(Tried::Gives(Found::Present(item))),
+        Met::TooSmall(size) => Turn::Ends(Found::TooSmall(size)),
+        Met::Present(item) => Turn::Ends(Found::Present(item)),
     }
 }
 
@@ -414,13 +384,13 @@ fn leave_page(image: &mut [u8], b: Budget, g: Geometry, oldest: Page, p: Page) -
     if page::is_same(state, PageState::Corrupted) {
         return Turned {
             spent: kept,
-            turn: Turn::Ends(Tried::Fails(Stand::AfterPage(p))),
+            turn: Turn::Ends(Found::Failed(Stand::AfterPage(p))),
         };
     }
     if page::is_same(state, PageState::Open) || next_page.0 == oldest.0 {
         return Turned {
             spent: kept,
-            turn: Turn::Ends(Tried::Gives(Found::Nothing)),
+            turn: Turn::Ends(Found::Nothing),
         };
     }
     let erased = page::open_page(image, b, g, p);

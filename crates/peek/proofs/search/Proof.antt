@@ -1,11 +1,12 @@
 -- `peek::search` meets its contract: the second step begins where the first one ended. Assumes nothing.
 use borrow.Author.Needs.{needs}
 use mathlib.Core.Path.{ap}
+use Rattle.paper.specs.Chip.{settled}
 use Rattle.paper.specs.Calls.{searchOn, spoilt}
 use Rattle.paper.specs.Calls as calls
 use Rattle.chip.proofs.Binding.{showed-bind-cut, showed-bind-then}
 use Rattle.page.specs.Searches.{chosenAs}
-use Rattle.peek.proofs.Answering.{showed-kept}
+use Rattle.peek.proofs.Answering.{showed-turned, showed-kept}
 use Rattle.peek.proofs.search.Statement.{statement}
 use Rattle.peek.proofs.search.Tie as tie
 
@@ -25,8 +26,8 @@ enum-told c = search needs
 enum-known-start : tie.Need-enum-known-start
 enum-known-start c = search needs
 
-search-from-requires : tie.Need-search-from-requires
-search-from-requires c κs = ((rw (c .before .before .before .before .before .before .before .before .before .find-start .kept .0) (c .before .before .before .before .before .before .before .before .before .before .before .before .before .pre)), c .before .before .before .before .before .before .before .before .before .find-start .ensures .within _ (ap chosenAs (c .before .before .before .start .given .1)))
+next-requires : tie.Need-next-requires
+next-requires c κs = ((rw (c .before .before .before .before .before .before .before .before .before .find-start .kept .0) (c .before .before .before .before .before .before .before .before .before .before .before .before .before .pre)), c .before .before .before .before .before .before .before .before .before .find-start .ensures .within _ (ap chosenAs (c .before .before .before .start .given .1)))
 
 same-length-2 : tie.Need-same-length-2
 same-length-2 c = search needs
@@ -42,8 +43,8 @@ same-length-4 : tie.Need-same-length-4
 same-length-4 c = search needs
 
 returns-3 : tie.Need-returns-3
-unfolding calls.search
-returns-3 c = record { shows = showed-bind-then (searchOn (c .before .before .before .before .before .before .before .before .before .before .before .before .before .before .before .before .before .before .args .g) _) (c .before .before .before .before .before .before .before .before .before .before .before .before .before .before .find-start .ensures .shows _) (c .before .before .before .before .before .before .before .before .before .before .if1 .left) (rw (c .before .before .before .before .before .before .before .before .start .given .1) (c .before .before .before .before .search-from .ensures .shows)); within = c .before .before .before .before .search-from .ensures .within }
+unfolding calls.search searchOn
+returns-3 c = record { shows = showed-bind-then (searchOn (c .before .before .before .before .before .before .before .before .before .before .before .before .before .before .before .before .before .before .args .g) _) (c .before .before .before .before .before .before .before .before .before .before .before .before .before .before .find-start .ensures .shows _) (c .before .before .before .before .before .before .before .before .before .before .if1 .left) (rw (c .before .before .before .before .before .before .before .before .start .given .1) (showed-turned (settled spoilt) (c .before .before .before .before .next .ensures .shows))); within = c .before .before .before .before .next .ensures .within }
 
 pub search-spec : {M : Type 1} → statement M
 search-spec =
@@ -54,7 +55,7 @@ search-spec =
     returns
     enum-told
     enum-known-start
-    search-from-requires
+    next-requires
     same-length-2
     returns-2
     same-length-3

@@ -18,6 +18,9 @@ cast-t6 c = search needs
 enum-told-2 : tie.Need-enum-told-2
 enum-told-2 c = search needs
 
+enum-told-3 : tie.Need-enum-told-3
+enum-told-3 c = search needs
+
 returns : tie.Need-returns
 returns c = λ g im. (rw (c .enum-told .given .1))
 
@@ -30,6 +33,9 @@ returns-3 c = λ g im. (rw (c .before .before .found2 .given .1))
 returns-4 : tie.Need-returns-4
 returns-4 c = λ g im. (rw (c .enum-told2 .given .1))
 
+returns-5 : tie.Need-returns-5
+returns-5 c = λ g im. (rw (c .enum-told3 .given .1))
+
 pub shown-by-spec : {M : Type 1} → statement M
 shown-by-spec =
     tie.close
@@ -39,7 +45,9 @@ shown-by-spec =
     enum-known-found-2
     cast-t6
     enum-told-2
+    enum-told-3
     returns
     returns-2
     returns-3
-    returns-4)
+    returns-4
+    returns-5)
