@@ -1,4 +1,4 @@
--- Demand 3: every history. Assumes nothing.
+-- Demand 3: every history; and that document 01's own premise gives the one assumed. Assumes nothing.
 use mathlib.Core.List.{List, [], _∷_, _++_, List·Memᴰ, List·Memᴰ·head, List·Memᴰ·tail, List·Memᴰ·not-nil, Memᴰ·append-left, Memᴰ·append-right}
 use mathlib.Core.Logic.{_⊎_, inl, inr}
 use mathlib.Core.Path.{_≡_, refl, ap₂, subst}
@@ -9,6 +9,7 @@ use Rattle.paper.specs.Chip.{Event, store, erase, copy}
 use Rattle.paper.specs.Scan.{Head, pageWalk}
 use Rattle.paper.specs.Pages.{allPages}
 use Rattle.paper.specs.Fifo.{Call, pushes, peeks, pops, fits, spaces, erasesAll, Power, whole, cutAfter, eventsOf, imageNext, Ghost, ghostNext, headerAt, kept, outside, refusals, Begun, Fair, Reached, fresh, further, Demand3}
+use Rattle.fifo.specs.Claims.{LiteralEnough}
 use Rattle.fifo.proofs.Good.{accepted-good}
 use Rattle.fifo.proofs.Views.{view, erasedView, erased-view}
 use Rattle.fifo.proofs.Ring.{pages-only}
@@ -99,3 +100,6 @@ demand3 = record {
       let H = held r in
       (H .begun, λ p hp h m k. List·Memᴰ·not-nil (subst (λ (l : List ℕ). List·Memᴰ (h .place) l) (H .none-refused wide) k));
 }
+
+pub literal-enough : LiteralEnough
+literal-enough g im gh h = h .1

@@ -10,7 +10,7 @@ use Rattle.paper.specs.Chip.{Plan}
 use Rattle.paper.specs.Pages.{state, repair}
 use Rattle.paper.specs.Refusals.{refused}
 use Rattle.paper.specs.Waiting.{waiting}
-use Rattle.paper.specs.Fifo.{Call, pushes, fits, spaces, cutAfter, planOf, imageNext, listAfter, Ghost, Fair, Reached}
+use Rattle.paper.specs.Fifo.{Call, pushes, fits, spaces, cutAfter, planOf, imageNext, listAfter, Ghost, NoneAgain, NoFalse, Fair, Reached}
 
 pub record Sound (g : Geometry) (im : List ℕ) : Type 0 where
   -- no page is Corrupted
@@ -35,3 +35,7 @@ pub record ChangesOnce (g : Geometry) (im : List ℕ) (c : Call) : Type 0 where
 
 abbrev pub AlwaysOnce : Type 0
 AlwaysOnce = (g : Geometry) (im : List ℕ) (gh : Ghost) → Reached g im gh → (c : Call) → ((k : ℕ) → Fair g im gh c (cutAfter k)) → ChangesOnce g im c
+
+-- document 01's own premise, that no false header is accepted, gives the one that a history assumes
+abbrev pub LiteralEnough : Type 0
+LiteralEnough = (g : Geometry) (im : List ℕ) (gh : Ghost) → NoFalse g im gh → NoneAgain g im gh
