@@ -20,11 +20,15 @@ use std::time::{Duration, Instant};
 const USAGE: &str = "\
 usage: compare [SEED [COUNT]]     random cases, by default of seed 1 for 20 seconds; every seventh with all its limits
        compare --small            all cases of a few small geometries
+       compare --quick            the small ones, then four million random ones of seed 1: under a minute
        compare --replay LINE      one case: call start end page word limit overwrite image slip buffer
 exit status: 0 all equal, 1 a difference, 2 a wrong command line";
 
 /// How long a run without a count takes.
 const USUAL: Duration = Duration::from_secs(20);
+
+/// How many random cases the quick run has.
+const QUICK: usize = 4_000_000;
 
 /// Every so many cases without a limit are asked with each limit too, and its pages are looked at.
 const SHARE: u64 = 7;
@@ -41,6 +45,7 @@ fn main() -> ExitCode {
     match words[..] {
         [] => run(random(1), None),
         ["--small"] => run(small(), Some(u64::MAX)),
+        ["--quick"] => run(small().chain(random(1).take(QUICK)), Some(u64::MAX)),
         ["--replay", ref line @ ..] if !line.is_empty() => replay(&line.join(" ")),
         ["--help" | "-h"] => {
             println!("{USAGE}");
