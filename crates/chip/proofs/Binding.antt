@@ -1,7 +1,7 @@
 -- Plans in a row: a run of a plan, and then of what is planned on its answer and image, is a run of the two bound. Assumes nothing.
-use mathlib.Core.Path.{_≡_, refl, sym, _∙_}
-use mathlib.Core.Bool.{true, false, false≢true}
-use mathlib.Core.List.{List, []}
+use mathlib.Core.Path.{_≡_, refl, sym, ap, _∙_}
+use mathlib.Core.Bool.{Bool, true, false, false≢true}
+use mathlib.Core.List.{List, [], append-nil}
 use Prim.Native.Nat.{ℕ}
 use Rattle.paper.specs.declared.Geometry.{Geometry}
 use Rattle.paper.specs.Chip.{Event, imageAfter, bufferAfter, Plan, plan, bind, andThen}
@@ -9,7 +9,6 @@ use Rattle.chip.specs.declared.Budget.{Budget}
 use Rattle.chip.specs.declared.Spent.{Spent}
 use Rattle.chip.specs.Run.{made, Did, Acted, Ran, Showed}
 use Rattle.chip.proofs.Running.{did-image, acted-then, acted-cut, acted-none, did-none}
-use Rattle.chip.proofs.Quiet.{copyCount, acted-quiet}
 
 -- ---- with a buffer and without
 
@@ -20,10 +19,6 @@ module _ {A : Type 0} {g : Geometry} {b : Budget} {p : Plan A} {i o : List ℕ} 
   -- some buffer goes with every run
   pub showed-of : (d : List ℕ) → Ran g b p i o r x → Showed g b p i o d (bufferAfter g (made b (p .events)) i d) r x
   showed-of d h = record { acted = record { did = h .did; buffer = refl }; says = h .says }
-
-  -- with no copy the same goes with it
-  pub showed-quiet : (d : List ℕ) → copyCount (p .events) ≡ 0 → Ran g b p i o r x → Showed g b p i o d d r x
-  showed-quiet d q h = record { acted = acted-quiet d q (h .did); says = h .says }
 
 -- ---- events and an answer
 
@@ -40,6 +35,14 @@ module _ {A : Type 0} (g : Geometry) (b : Budget) (i : List ℕ) (x : A) where
 
   pub ran-none : Ran g b (plan [] x) i i (record { cut = false; budget = b }) x
   ran-none = ran-plan x (did-none g b i)
+
+-- a run that spent r was not cut
+pub uncut : (r : Spent) → r .cut ≡ false → record { cut = false; budget = r .budget } ≡ r
+uncut r t = ap (λ (c : Bool). record { cut = c; budget = r .budget }) (sym t)
+
+-- so nothing is done after it
+pub showed-kept : {A : Type 0} (g : Geometry) (r : Spent) (i d : List ℕ) (x : A) → r .cut ≡ false → Showed g (r .budget) (plan [] x) i i d d r x
+showed-kept g r i d x t = rw (← uncut r t) (showed-none g (r .budget) i x d)
 
 -- ---- bind
 
@@ -60,6 +63,22 @@ module _ {A B : Type 0} {g : Geometry} {b : Budget} {p : Plan A} {i o : List ℕ
 
   pub bind-then : {m : List ℕ} {s : Spent} {y : B} → r .cut ≡ false → Ran g (r .budget) (next x o) o m s y → Ran g b (bind g i p next) i m s y
   bind-then t v = ran-of (showed-bind-then next (showed-of [] h) t (showed-of _ v))
+
+  -- nothing more is done
+  pub bind-ends : r .cut ≡ false → (y : B) → next x o ≡ plan [] y → Ran g b (bind g i p next) i o r y
+  bind-ends t y e = rw (← uncut r t) (bind-then t (rw e (ran-none g (r .budget) o y)))
+
+-- ---- an answer turned into another one, by f
+
+pub bind-turned : {A B C : Type 0} (g : Geometry) (im : List ℕ) (p : Plan A) (f : A → B) (next : B → List ℕ → Plan C)
+    → bind g im (bind g im p (λ a im₁. plan [] (f a))) next ≡ bind g im p (λ a. next (f a))
+unfolding bind
+bind-turned g im p f next = rw append-nil
+
+pub showed-turned : {A B : Type 0} {g : Geometry} {b : Budget} {p : Plan A} {i o d e : List ℕ} {r : Spent} {x : A} (f : A → B) → Showed g b p i o d e r x
+    → Showed g b (bind g i p (λ a im. plan [] (f a))) i o d e r (f x)
+unfolding bind
+showed-turned f h = rw append-nil (record { acted = h .acted; says = λ t. ap f (h .says t) })
 
 -- ---- andThen
 

@@ -1,49 +1,15 @@
 -- Budgets: events in a row under a budget are the first ones under it and then the others under what is left of it. Assumes nothing.
-use mathlib.Core.Path.{_≡_, refl, sym, ap, _∙_}
+use mathlib.Core.Path.{_≡_, refl, sym, _∙_}
 use mathlib.Core.Bool.{Bool, true, false, false≢true}
-use mathlib.Core.List.{List, [], _∷_, _++_, append-nil}
+use mathlib.Core.List.{List, [], _∷_, _++_}
 use Prim.Native.Nat.{ℕ, zero, suc, _+_, _-_, _≤_, _<_}
 use native.Mathlib.Omega.{arith}
 use borrow.Author.Tests.{lt-ltb, le-ltb, ltb-true, ltb-false}
 use lib.Dec.{ltb}
 use Rattle.paper.specs.Chip.{Event, store, erase, copy, storeCount, before}
+use Rattle.laws.proofs.Events.{before-less, before-more, before-all}
 use Rattle.chip.specs.declared.Budget.{Budget}
 use Rattle.chip.specs.Run.{made, spend}
-
--- ---- the events before a store
-
-pub count-append : (xs ys : List Event) → storeCount (xs ++ ys) ≡ storeCount xs + storeCount ys
-unfolding storeCount
-count-append [] ys = omega arith
-count-append (store a bs ∷ xs) ys = omega (arith, count-append xs ys)
-count-append (erase p ∷ xs) ys = omega (arith, count-append xs ys)
-count-append (copy a n ∷ xs) ys = count-append xs ys
-
-before-more : (k : ℕ) (xs ys : List Event) → storeCount xs ≤ k → before k (xs ++ ys) ≡ xs ++ before (k - storeCount xs) ys
-unfolding storeCount before
-before-more k [] ys h = let z : k ≡ k - 0 = omega arith in ap (λ (x : ℕ). before x ys) z
-before-more k (copy a n ∷ xs) ys h = ap (λ (l : List Event). copy a n ∷ l) (before-more k xs ys h)
-before-more zero (store a bs ∷ xs) ys h = absurd (omega arith)
-before-more (suc k) (store a bs ∷ xs) ys h =
-    let z : k - storeCount xs ≡ suc k - suc (storeCount xs) = omega arith in
-    ap (λ (l : List Event). store a bs ∷ l) (before-more k xs ys (omega arith) ∙ ap (λ (x : ℕ). xs ++ before x ys) z)
-before-more zero (erase p ∷ xs) ys h = absurd (omega arith)
-before-more (suc k) (erase p ∷ xs) ys h =
-    let z : k - storeCount xs ≡ suc k - suc (storeCount xs) = omega arith in
-    ap (λ (l : List Event). erase p ∷ l) (before-more k xs ys (omega arith) ∙ ap (λ (x : ℕ). xs ++ before x ys) z)
-
-before-all : (k : ℕ) (xs : List Event) → storeCount xs ≤ k → before k xs ≡ xs
-unfolding before
-before-all k xs h = ap (before k) (sym (append-nil xs)) ∙ before-more k xs [] h ∙ append-nil xs
-
-before-cut : (k : ℕ) (xs ys : List Event) → k < storeCount xs → before k (xs ++ ys) ≡ before k xs
-unfolding storeCount before
-before-cut k [] ys h = absurd (omega arith)
-before-cut k (copy a n ∷ xs) ys h = ap (λ (l : List Event). copy a n ∷ l) (before-cut k xs ys h)
-before-cut zero (store a bs ∷ xs) ys h = refl
-before-cut (suc k) (store a bs ∷ xs) ys h = ap (λ (l : List Event). store a bs ∷ l) (before-cut k xs ys (omega arith))
-before-cut zero (erase p ∷ xs) ys h = refl
-before-cut (suc k) (erase p ∷ xs) ys h = ap (λ (l : List Event). erase p ∷ l) (before-cut k xs ys (omega arith))
 
 -- ---- what is spent
 
@@ -105,7 +71,7 @@ made-cut b xs ys e = go (b .limited) (b .left) e
   where
     go : (l : Bool) (k : ℕ) → spend (limit l k) (storeCount xs) .cut ≡ true → made (limit l k) (xs ++ ys) ≡ made (limit l k) xs
     go false k e = absurd (false≢true e)
-    go true k e = before-cut k xs ys (ltb-true k (storeCount xs) e)
+    go true k e = before-less k xs ys (ltb-true k (storeCount xs) e)
 
 pub made-all : (b : Budget) (xs : List Event) → spend b (storeCount xs) .cut ≡ false → made b xs ≡ xs
 unfolding spend made

@@ -1,17 +1,12 @@
 -- Where the pages of a good geometry lie, and what fits into their data. Assumes nothing.
-use mathlib.Core.Path.{_≡_, refl, ap, _∙_}
-use Prim.Native.Nat.{ℕ, suc, _+_, _-_, _*_, _/_, _≤_, _<_}
-use native.Mathlib.Nat.{mul-le-mul-right, suc-mul, div-add-mod'}
+use mathlib.Core.Path.{_≡_, refl}
+use Prim.Native.Nat.{ℕ, _+_, _*_, _≤_, _<_}
 use native.Mathlib.Omega.{arith}
 use Rattle.paper.specs.declared.Geometry.{Geometry}
 use Rattle.paper.specs.Chip.{roundUp, roundDown, headerSize, pageStart, dataStart, dataSize, dataEnd}
+use Rattle.laws.proofs.Places.{page-in}
+use Rattle.laws.proofs.Rounding.{round-up-behind}
 use Rattle.chip.specs.Within.{Good, Within}
-use Rattle.chip.proofs.Rounding.{sub-mul, round-down-whole, round-up-behind}
-
--- a page ends within the range
-pub page-in : (g : Geometry) (p : ℕ) → p < g .pages → pageStart g p + g .page ≤ pageStart g (g .pages)
-unfolding pageStart
-page-in g p h = omega (arith, mul-le-mul-right {m = suc p} {n = g .pages} (g .page) h, suc-mul p (g .page))
 
 -- where a page and its data begin and end, in an image of n bytes
 pub record DataIn (g : Geometry) (p n : ℕ) : Type 0 where
@@ -30,14 +25,6 @@ data-in g p n w h =
     let t = w .good .top in
     let e = w .ends in
     record { starts = refl; ends = omega arith; sizes = refl; size = omega arith; within = omega arith; top = omega arith }
-
--- a page's data is whole words
-pub data-whole : (g : Geometry) → Good g → roundDown (g .word) (dataSize g) ≡ dataSize g
-unfolding dataSize
-data-whole g h =
-    let k : ℕ = g .page / g .word in
-    let e : (k - 2) * g .word ≡ g .page - 2 * g .word = sub-mul k 2 (g .word) ∙ ap (λ (x : ℕ). x - 2 * g .word) (omega (arith, div-add-mod' (g .page) (g .word))) in
-    rw (← e) (round-down-whole (g .word) (k - 2) (h .low))
 
 -- what fits into whole words behind a header fits there rounded up
 pub item-fits : (g : Geometry) (n r : ℕ) → Good g → headerSize g + n ≤ roundDown (g .word) r → headerSize g + roundUp (g .word) n ≤ roundDown (g .word) r

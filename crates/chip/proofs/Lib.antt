@@ -1,4 +1,3 @@
-pub mod Rounding
 pub mod Geometry
 pub mod Checking
 pub mod Budgets

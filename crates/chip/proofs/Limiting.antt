@@ -1,7 +1,7 @@
 -- The whole call is a run without a limit, and the limited call a run with one. Assumes nothing.
 use mathlib.Core.Path.{_≡_, refl, sym, ap, _∙_}
 use mathlib.Core.Bool.{true, false}
-use mathlib.Core.List.{List, []}
+use mathlib.Core.List.{List}
 use Prim.Native.Nat.{ℕ}
 use lib.Dec.{ltb}
 use Rattle.paper.specs.declared.Geometry.{Geometry}
@@ -13,7 +13,7 @@ use Rattle.chip.specs.declared.Budget.{Budget}
 use Rattle.chip.specs.declared.Spent.{Spent}
 use Rattle.chip.specs.Run.{made, spend, Did, Ran, Showed, Whole, WholeShown}
 use Rattle.chip.proofs.Running.{did-image, acted-buffer}
-use Rattle.chip.proofs.Binding.{ran-of, showed-of}
+use Rattle.chip.proofs.Binding.{ran-of}
 
 -- a run that was not cut is whole
 module _ {A : Type 0} {g : Geometry} {b : Budget} {p : Plan A} {i o : List ℕ} {r : Spent} {x : A} (t : r .cut ≡ false) where
@@ -43,9 +43,3 @@ module _ {g : Geometry} {i o : List ℕ} {r : Spent} {x : Answer} (k : ℕ) (p :
   pub showed-limited-done : {d e : List ℕ} → Showed g (record { limited = true; left = k }) p i o d e r x → r .cut ≡ false → WholeShown g (limited k p) i o d e x
   unfolding limited
   showed-limited-done h t = rw (is-cut (h .acted .did) ∙ t) (showed-whole t h)
-
-  pub limited-cut : Ran g (record { limited = true; left = k }) p i o r x → r .cut ≡ true → Whole g (limited k p) i o (refused refusal.Cut)
-  limited-cut h t = showed-limited-cut (showed-of [] h) t .whole
-
-  pub limited-done : Ran g (record { limited = true; left = k }) p i o r x → r .cut ≡ false → Whole g (limited k p) i o x
-  limited-done h t = showed-limited-done (showed-of [] h) t .whole

@@ -3,26 +3,13 @@ use mathlib.Core.Path.{_≡_, refl, sym, ap, ap₂, _∙_}
 use mathlib.Core.Bool.{true, false}
 use mathlib.Core.List.{List, [], _∷_, _++_}
 use Prim.Native.Nat.{ℕ}
-use native.Mathlib.Omega.{arith}
 use Rattle.paper.specs.declared.Geometry.{Geometry}
-use Rattle.paper.specs.Chip.{Event, store, erase, copy, imageBy, imageAfter, bufferBy, bufferAfter, storeCount}
+use Rattle.paper.specs.Chip.{Event, imageBy, imageAfter, bufferAfter, storeCount}
+use Rattle.laws.proofs.Events.{image-append, buffer-append, count-append, copies-image}
 use Rattle.chip.specs.declared.Budget.{Budget}
 use Rattle.chip.specs.declared.Spent.{Spent}
 use Rattle.chip.specs.Run.{made, spend, Did, Acted}
-use Rattle.chip.proofs.Budgets.{count-append, spend-more, spend-cut, spend-none, made-more, made-cut, made-all, made-unpaid}
-
--- ---- events in a row
-
-pub image-append : (g : Geometry) (xs ys : List Event) (im : List ℕ) → imageAfter g (xs ++ ys) im ≡ imageAfter g ys (imageAfter g xs im)
-unfolding imageAfter
-image-append g [] ys im = refl
-image-append g (x ∷ xs) ys im = image-append g xs ys (imageBy g x im)
-
-buffer-append : (g : Geometry) (xs ys : List Event) (im d : List ℕ)
-    → bufferAfter g (xs ++ ys) im d ≡ bufferAfter g ys (imageAfter g xs im) (bufferAfter g xs im d)
-unfolding imageAfter bufferAfter
-buffer-append g [] ys im d = refl
-buffer-append g (x ∷ xs) ys im d = buffer-append g xs ys (imageBy g x im) (bufferBy x im d)
+use Rattle.chip.proofs.Budgets.{spend-more, spend-cut, spend-none, made-more, made-cut, made-all, made-unpaid}
 
 -- ---- stores
 
@@ -94,13 +81,6 @@ module _ {g : Geometry} {b : Budget} {xs : List Event} {i o d e : List ℕ} {r :
     did = did-cut (h .did) ys f;
     buffer = h .buffer ∙ ap (λ (x : List Event). bufferAfter g x i d) (sym (made-cut b xs ys (cut-of (h .did) ∙ f)));
   }
-
-copies-image : (g : Geometry) (es : List Event) (im : List ℕ) → storeCount es ≡ 0 → imageAfter g es im ≡ im
-unfolding storeCount imageAfter imageBy
-copies-image g [] im e = refl
-copies-image g (store a bs ∷ es) im e = absurd (omega arith)
-copies-image g (erase p ∷ es) im e = absurd (omega arith)
-copies-image g (copy a n ∷ es) im e = copies-image g es im e
 
 -- copies alone are made under any budget, and leave the image
 pub acted-copies : (g : Geometry) (b : Budget) (es : List Event) (i d e : List ℕ) → storeCount es ≡ 0 → e ≡ bufferAfter g es i d

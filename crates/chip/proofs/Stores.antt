@@ -1,20 +1,17 @@
 -- A store and an erase, byte by byte: the turns and ends of the loops that make them. Assumes nothing.
-use mathlib.Core.Path.{_≡_, refl, sym, ap, _∙_}
-use mathlib.Core.List.{List, [], _∷_, _++_}
+use mathlib.Core.Path.{_≡_, sym, ap, _∙_}
+use mathlib.Core.List.{List, _∷_, _++_}
 use Prim.Native.Nat.{ℕ, zero, suc, _+_, _-_, _≤_, _<_}
 use native.Mathlib.Numerals.{add-one}
-use native.Mathlib.Nat.{add-zero}
 use native.Mathlib.Omega.{arith}
 use lib.Bits.{bitAnd}
-use lib.ListN.{length, getD, set, take, drop, replicate, drop-of-length-le, take-append-drop}
+use lib.ListN.{length, getD, set, take, drop, replicate, drop-of-length-le}
 use lib.Seq.{append-snoc, drop-cons, drop-set-lt, take-suc-set}
 use Rattle.paper.specs.Chip.{put, ands}
+use Rattle.laws.proofs.Ands.{ands-nil}
+use Rattle.laws.proofs.Puts.{put-nil}
 
 -- ---- bytes put in the place of others
-
-pub put-nil : (a : ℕ) (l : List ℕ) → put a [] l ≡ l
-unfolding put
-put-nil a l = ap (λ (n : ℕ). take a l ++ drop n l) (add-zero a) ∙ take-append-drop a l
 
 pub put-cons : (a x : ℕ) (xs l : List ℕ) → a < length l → put a (x ∷ xs) l ≡ put (a + 1) xs (set l a x)
 unfolding put
@@ -38,11 +35,7 @@ and-step im a word i h k =
 
 pub and-end : (im : List ℕ) (a : ℕ) (word : List ℕ) (i : ℕ) → length word ≤ i → put a (ands (drop a im) (drop i word)) im ≡ im
 unfolding ands
-and-end im a word i h = rw (drop-of-length-le word h) (ap (λ (x : List ℕ). put a x im) (none (drop a im)) ∙ put-nil a im)
-  where
-    none : (xs : List ℕ) → ands xs [] ≡ []
-    none [] = refl
-    none (x ∷ xs) = refl
+and-end im a word i h = rw (drop-of-length-le word h) (ap (λ (x : List ℕ). put a x im) (ands-nil (drop a im)) ∙ put-nil a im)
 
 -- ---- an erase
 

@@ -7,22 +7,18 @@ use native.Mathlib.Numerals.{add-one}
 use native.Mathlib.Omega.{arith}
 use borrow.Author.Tests.{leb-true, leb-false}
 use lib.Dec.{leb}
-use lib.ListN.{length, getD, set, take, drop, replicate, length-replicate, length-append, length-drop, drop-of-length-le}
+use lib.ListN.{length, getD, set, take, drop, replicate, length-drop, drop-of-length-le}
 use lib.Seq.{drop-drop, take-length, take-at, set-at, length-take-le, append-snoc, take-suc, take-append-le, take-append-add}
 use Rattle.paper.specs.declared.Geometry.{Geometry}
 use Rattle.paper.specs.Chip.{store, words, writes}
 use Rattle.chip.specs.declared.Budget.{Budget}
 use Rattle.chip.specs.declared.Spent.{Spent}
 use Rattle.chip.specs.Run.{Did}
-use Rattle.chip.proofs.Rounding.{words-none, words-step}
+use Rattle.laws.proofs.Parts.{take-replicate}
+use Rattle.laws.proofs.Rounding.{words-none, words-step}
 use Rattle.chip.proofs.Running.{did-then, did-cut}
 
 -- ---- a padded word
-
-pub take-replicate : (k m v : ℕ) → k ≤ m → take k (replicate m v) ≡ replicate k v
-take-replicate zero m v h = refl
-take-replicate (suc k) zero v h = absurd (omega arith)
-take-replicate (suc k) (suc m) v h = ap (λ (x : List ℕ). v ∷ x) (take-replicate k m v (omega arith))
 
 pub fill-step : (D : List ℕ) (k m v : ℕ) → k < length D → 0 < m → set (take k D ++ replicate m v) k (getD D k 0) ≡ take (k + 1) D ++ replicate (m - 1) v
 fill-step D k zero v h p = absurd (omega arith)
@@ -49,9 +45,6 @@ pad-end D v w n m e h = go (leb w (length D)) refl
         let f : (m : ℕ) → k ≤ m → take w (D ++ replicate m v) ≡ D ++ replicate k v =
         λ m g. ap (λ (x : ℕ). take x (D ++ replicate m v)) s ∙ take-append-add D (replicate m v) k ∙ ap (λ (x : List ℕ). D ++ x) (take-replicate k m v g) in
         rw (z, take-length D) (f m (omega arith) ∙ sym (f w (omega arith)))
-
-pub length-padded : (w : ℕ) (D : List ℕ) → length (take w (D ++ replicate w 0)) ≡ w
-length-padded w D = length-take-le w (D ++ replicate w 0) (simp (length-append, length-replicate) (omega arith))
 
 -- ---- the words of a list, from its byte i on
 

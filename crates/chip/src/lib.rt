@@ -30,11 +30,12 @@ pub struct Spent {
     pub budget: Budget,
 }
 
-const MAX_WORD_SIZE: usize = 32;
+// The limits of this port: the longest word, in bytes, as in the Rust ..
+pub const MAX_WORD_SIZE: usize = 32;
+// .. the longest page, in bytes, and the most pages.
+const MAX_PAGE_SIZE: u32 = 4096;
 
-const PAGE_LIMIT: u32 = 4096;
-
-const PAGE_COUNT_LIMIT: u32 = 64;
+pub const MAX_PAGES: usize = 64;
 
 // ---- the check
 
@@ -91,7 +92,7 @@ fn check_limits(n: usize, s: Shape) -> Checked
     ensures { λ r. ⌜ r ≡ judge s (drop 7 (rules n s)) ⌝ }
 {
     let pages = (s.end - s.start) / s.page;
-    if PAGE_LIMIT < s.page || PAGE_COUNT_LIMIT < pages {
+    if MAX_PAGE_SIZE < s.page || MAX_PAGES < (pages as usize) {
         return Checked::Refused(Refusal::TooLarge);
     }
     if n < (s.end as usize) {

@@ -1,6 +1,6 @@
 -- A count with its repair: a run that gives, one whose repair is cut, and one more after the repair. Assumes nothing.
-use mathlib.Core.Path.{_≡_, refl, sym, ap}
-use mathlib.Core.Bool.{Bool, true, false}
+use mathlib.Core.Path.{_≡_, refl}
+use mathlib.Core.Bool.{true, false}
 use mathlib.Core.List.{List, []}
 use Prim.Native.Nat.{ℕ}
 use native.Mathlib.Omega.{arith}
@@ -13,7 +13,7 @@ use Rattle.paper.specs.Calls.{retry, withRepair, counted, spaceOf, space, space
 use Rattle.chip.specs.declared.Budget.{Budget}
 use Rattle.chip.specs.declared.Spent.{Spent}
 use Rattle.chip.specs.Run.{Did, Ran}
-use Rattle.chip.proofs.Binding.{ran-none, bind-cut, bind-then}
+use Rattle.chip.proofs.Binding.{ran-none, uncut, bind-cut, bind-then}
 use Rattle.chip.proofs.Repairing.{repair-gives, repair-stops, repair-again}
 
 -- what a count answers that came to t
@@ -42,9 +42,8 @@ module _ (g : Geometry) (b : Budget) (im : List ℕ) (count : List ℕ → Try U
     pub count-again : s .cut ≡ false → Ran g b (counted g im count) im o s (answered (count o))
     unfolding counted
     count-again t =
-        let z : record { cut = false; budget = s .budget } ≡ s = ap (λ (c : Bool). record { cut = c; budget = s .budget }) (sym t) in
         let again = repair-again step tt first tt e refl d t (ran-none g (s .budget) o (count o)) in
-        rw (← z) (bind-then next again refl (ran-none g (s .budget) o (answered (count o))))
+        rw (← uncut s t) (bind-then next again refl (ran-none g (s .budget) o (answered (count o))))
 
 -- ---- space_left has a number, or is refused
 

@@ -15,6 +15,7 @@ ghost use Rattle.chip.specs.Run.{Ran};
 ghost use Rattle.page.specs.Table.{Table};
 ghost use Rattle.count.specs.Counts.{countOf, countedAs, emptyBy, SpaceIs};
 use chip::Budget;
+use chip::MAX_PAGES;
 use chip::Page;
 use chip::Spent;
 use item::Available;
@@ -60,8 +61,6 @@ struct Counting {
     spent: Spent,
     counted: Counted,
 }
-
-const MAX_PAGES: usize = 64;
 
 // ---- find_max_fit
 

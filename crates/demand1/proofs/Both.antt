@@ -10,8 +10,8 @@ use Rattle.paper.specs.Chip.{Event, imageAfter, Plan, plan, bind, andThen, Try,
 use Rattle.paper.specs.Scan.{pageWalk}
 use Rattle.paper.specs.Pages.{state, Found, failed, found, missing, first, foundOr, openFrom, from, allPages, youngest, oldest, repairs, repair}
 use Rattle.paper.specs.Calls.{retry, withRepair}
+use Rattle.laws.proofs.Accepted.{Laid}
 use Rattle.demand1.specs.Range.{Lies, Each}
-use Rattle.demand1.proofs.Accepted.{Sound}
 use Rattle.demand1.proofs.Lists.{each-append}
 use Rattle.demand1.proofs.Does.{Tried, Any}
 use Rattle.demand1.proofs.Pages.{state-same, walk-same, from-in, all-in}
@@ -28,7 +28,7 @@ pub both-cond : {g : Geometry} {A : Type 0} {Q : A → Type 0} {p q r s : Plan A
 both-cond true e f = e refl
 both-cond false e f = f refl
 
-module _ {g : Geometry} {n : ℕ} (S : Sound g n) where
+module _ {g : Geometry} {n : ℕ} (S : Laid g n) where
   -- a plan, and what follows it
   pub both-bind : {A B : Type 0} (Q : A → Type 0) {R : B → Type 0} (im jm : List ℕ) {p q : Plan A} (follow : A → List ℕ → Plan B) → Alike g n im jm → Both g Q p q
       → ((a : A) → Q a → (im jm : List ℕ) → Alike g n im jm → Both g R (follow a im) (follow a jm)) → Both g R (bind g im p follow) (bind g jm q follow)

@@ -11,12 +11,12 @@ use Rattle.paper.specs.Chip.{roundUp, roundDown, Event, bufferAfter}
 use Rattle.paper.specs.Scan.{Head}
 use Rattle.paper.specs.Refusals.{geometryOf, check}
 use Rattle.paper.specs.Calls.{this, push, search, peek, pop, planFor}
-use Rattle.chip.proofs.Rounding.{round-up-fits, round-down-le, round-down-gt}
+use Rattle.laws.proofs.Accepted.{accepted-from}
+use Rattle.laws.proofs.Rounding.{round-up-fits, round-down-le, round-down-gt}
 use Rattle.demand1.specs.Rows.{Way, Seen}
 use Rattle.demand1.specs.Buffers.{Copies, OfBuffer, NoLogicBug}
 use Rattle.demand1.proofs.Lists.{each-before}
 use Rattle.demand1.proofs.Checks.{of-shape}
-use Rattle.demand1.proofs.Accepted.{accepted-sound}
 use Rattle.demand1.proofs.PushDoes.{push-does}
 use Rattle.demand1.proofs.SearchCopies.{heads-read, peek-does, pop-does, met-live}
 use Rattle.demand1.proofs.Tails.{tail-stays}
@@ -26,7 +26,7 @@ use Rattle.demand1.proofs.SearchRows.{search-seen}
 -- what is seen stands at the buffer's front
 module _ (g : Geometry) (im : List ℕ) (s : Shape) (e : check (length im) s ≡ Accepted g) (n k : ℕ) (hs : List Head) (w : Way g im hs) (seen : Seen g n hs k) (buf : List ℕ) (l : n ≤ length buf) where
   met-is : search g im n .answer ≡ this (seen .head)
-  met-is = search-seen (accepted-sound (length im) s g e) im refl n w seen
+  met-is = search-seen (accepted-from (length im) s g e .laid) im refl n w seen
 
   peek-shows : take k (bufferAfter g (peek g im n .events) im buf) ≡ seen .head .body
   peek-shows = rw (seen .is) (lasts-front n (peek-last g n im (seen .head) met-is) (peek-does g n im .each) buf l)
@@ -58,5 +58,5 @@ no-logic-bug = record {
   reborrows = λ g im n. peek-does g n im .answers;
   reborrows-pop = λ g im n. pop-does g n im .answers;
   splits = λ w n h. (round-down-le w n, omega (arith, round-down-gt w n h, round-down-le w n));
-  extends = λ g im s e n. let S = accepted-sound (length im) s g e in omega (arith, S .high, tail-fits (g .word) n (S .low));
+  extends = λ g im s e n. let S = accepted-from (length im) s g e .laid in omega (arith, S .high, tail-fits (g .word) n (S .low));
 }

@@ -10,16 +10,16 @@ use Rattle.paper.specs.Chip.{erasePage, plan, Try, fails, gives, onGiven, settl
 use Rattle.paper.specs.Pages.{state, next, allPages, youngest}
 use Rattle.paper.specs.Refusals.{Answer, refused}
 use Rattle.paper.specs.Calls.{counted, fitBy, fit, findMaxFit, spaceBy, spaceOf, space, spaceLeft, erases, eraseAll}
-use Rattle.page.proofs.Rings.{next-in}
+use Rattle.laws.proofs.Accepted.{Laid}
+use Rattle.laws.proofs.Ring.{next-in}
 use Rattle.demand1.specs.Range.{Lies, Each}
-use Rattle.demand1.proofs.Accepted.{Sound}
 use Rattle.demand1.proofs.Pages.{all-in}
 use Rattle.demand1.proofs.Lying.{Alike}
 use Rattle.demand1.proofs.Does.{Tried, Any}
 use Rattle.demand1.proofs.Searches.{youngest-in}
 use Rattle.demand1.proofs.Both.{Both, both-bind, both-steps, states, walks, youngest-same}
 
-module _ {g : Geometry} {n : ℕ} (S : Sound g n) where
+module _ {g : Geometry} {n : ℕ} (S : Laid g n) where
   both-counted : (count : List ℕ → Try Unit Answer) → ((im jm : List ℕ) → Alike g n im jm → count im ≡ count jm)
       → (im jm : List ℕ) → Alike g n im jm → Both g Any (counted g im count) (counted g jm count)
   unfolding counted

@@ -16,9 +16,9 @@ use Rattle.paper.specs.declared.Refusal.the-variants as refusal
 use Rattle.paper.specs.Chip.{Event, store, erase, copy, storeCount, before, Plan, plan}
 use Rattle.paper.specs.Refusals.{check, Answer, number, none, refused}
 use Rattle.paper.specs.Calls.{eraseAll, Request, pushing, peeking, popping, fitting, measuring, erasing, planned, call, planFor, requested, limited}
+use Rattle.laws.proofs.Accepted.{Laid, accepted-from}
 use Rattle.demand1.specs.Rows.{OfCut}
 use Rattle.demand1.proofs.Lists.{never}
-use Rattle.demand1.proofs.Accepted.{Sound, accepted-sound}
 use Rattle.demand1.proofs.Checks.{check-refuses}
 use Rattle.demand1.proofs.PushRows.{of-push}
 use Rattle.demand1.proofs.SearchRows.{of-peek, of-pop}
@@ -33,7 +33,7 @@ counts : {a : Answer} → (a ≡ none) ⊎ ((k : ℕ) × (a ≡ number k)) → N
 counts (inl d) e = never (cc)
 counts (inr d) e = let f = d .1 in never (cc)
 
-plan-uncut : {g : Geometry} {n : ℕ} → Sound g n → (im : List ℕ) → length im ≡ n → (c : Request) → NotCut (planFor g im c .answer)
+plan-uncut : {g : Geometry} {n : ℕ} → Laid g n → (im : List ℕ) → length im ≡ n → (c : Request) → NotCut (planFor g im c .answer)
 unfolding planFor eraseAll
 plan-uncut {g} S im size (pushing slip over) e =
     let d = of-push S im size slip over .otherwise (λ x. never (cc)) (λ x. never (cc)) (λ x. never (cc)) in
@@ -53,7 +53,7 @@ unfolding requested call
 requested-uncut s im c = by (check (length im) s) refl
   where
     by : (t : Checked) → check (length im) s ≡ t → NotCut (planned t (λ g. planFor g im c) .answer)
-    by (Accepted g) q e = plan-uncut (accepted-sound (length im) s g q) im refl c e
+    by (Accepted g) q e = plan-uncut (accepted-from (length im) s g q .laid) im refl c e
     by (Refused r) q e = let z : r ≡ refusal.Cut = cc in check-refuses (length im) s refusal.Cut .0 (q ∙ ap Refused z) .0
 
 -- ---- a limit

@@ -2,9 +2,9 @@
 use mathlib.Core.Path.{refl}
 use lib.ListN.{length}
 use Rattle.paper.specs.Calls.{eraseAll}
+use Rattle.laws.proofs.Accepted.{accepted-from}
 use Rattle.demand1.specs.Rows.{Rows}
 use Rattle.demand1.specs.Demand1.{Demand1}
-use Rattle.demand1.proofs.Accepted.{accepted-sound}
 use Rattle.demand1.proofs.InRange.{in-range}
 use Rattle.demand1.proofs.Buffers.{of-buffer, no-logic-bug}
 use Rattle.demand1.proofs.Checks.{of-shape}
@@ -17,9 +17,9 @@ rows : Rows
 unfolding eraseAll
 rows = record {
   of-cut = of-cut;
-  of-push = λ g im s e slip over. of-push (accepted-sound (length im) s g e) im refl slip over;
-  of-peek = λ g im s e n. of-peek (accepted-sound (length im) s g e) im refl n;
-  of-pop = λ g im s e n. of-pop (accepted-sound (length im) s g e) im refl n;
+  of-push = λ g im s e slip over. of-push (accepted-from (length im) s g e .laid) im refl slip over;
+  of-peek = λ g im s e n. of-peek (accepted-from (length im) s g e .laid) im refl n;
+  of-pop = λ g im s e n. of-pop (accepted-from (length im) s g e .laid) im refl n;
   of-fit = λ g im s e. of-fit g im;
   of-space = λ g im s e. of-space g im;
   of-erase = λ g. refl;

@@ -8,9 +8,9 @@ use Rattle.paper.specs.declared.PageState.{PageState}
 use Rattle.paper.specs.declared.PageState.the-variants.{Open, PartialOpen, Closed, Corrupted}
 use Rattle.paper.specs.Chip.{Try, fails, gives, onGiven}
 use Rattle.paper.specs.Pages.{state, same, from, allPages, Found, failed, found, missing, first, foundOr, openFrom, youngest, oldest}
+use Rattle.laws.proofs.Marks.{same-is}
 use Rattle.demand1.specs.Range.{Each}
 use Rattle.demand1.proofs.Lists.{never}
-use Rattle.demand1.proofs.Frames.{same-true}
 use Rattle.demand1.proofs.Repairs.{all-of}
 
 module _ (g : Geometry) (im : List ℕ) where
@@ -28,7 +28,7 @@ module _ (g : Geometry) (im : List ℕ) where
       by true t a b f r = never (cc)
       by false true a b f r =
           let z : p ≡ q = cc in
-          subst (λ (x : ℕ). Not Corrupted x × (state g im x ≡ want)) z (a, same-true (state g im p) want b)
+          subst (λ (x : ℕ). Not Corrupted x × (state g im x ≡ want)) z (a, same-is (state g im p) want b)
       by false false a b f r = r f
 
   first-missing : (want : PageState) (ps : List ℕ) → first g im want ps ≡ missing → Each (λ p. Not Corrupted p × Not want p) ps

@@ -14,8 +14,8 @@ use Rattle.paper.specs.declared.Refusal.the-variants as refusal
 use Rattle.paper.specs.Chip.{Event, storeCount, before, imageAfter, bufferAfter, Plan, plan}
 use Rattle.paper.specs.Refusals.{geometryOf, check, Answer, refused}
 use Rattle.paper.specs.Calls.{Request, pushing, peeking, popping, fitting, measuring, erasing, planned, call, planFor, requested, limited}
+use Rattle.laws.proofs.Accepted.{Laid, accepted-is, accepted-from}
 use Rattle.demand1.specs.Range.{Lies, Each, Outside, Agree, afterLimit, bufferLimit, InRange}
-use Rattle.demand1.proofs.Accepted.{Sound, accepted-is, accepted-sound, starts-at, ends-at}
 use Rattle.demand1.proofs.Lists.{each-before}
 use Rattle.demand1.proofs.Lying.{Alike, range-end, alike-after, alike-self, frame-after, alike-buffer}
 use Rattle.demand1.proofs.Does.{Any}
@@ -24,7 +24,7 @@ use Rattle.demand1.proofs.PushLies.{both-push}
 use Rattle.demand1.proofs.SearchLies.{both-peek, both-pop}
 use Rattle.demand1.proofs.CountLies.{both-fit, both-space, both-erase}
 
-both-for : {g : Geometry} {n : ℕ} → Sound g n → (c : Request) (im jm : List ℕ) → Alike g n im jm → Both g Any (planFor g im c) (planFor g jm c)
+both-for : {g : Geometry} {n : ℕ} → Laid g n → (c : Request) (im jm : List ℕ) → Alike g n im jm → Both g Any (planFor g im c) (planFor g jm c)
 unfolding planFor
 both-for S (pushing slip over) im jm L = both-push S slip over im jm L
 both-for S (peeking b) im jm L = both-peek S b im jm L
@@ -34,7 +34,7 @@ both-for S measuring im jm L = both-space S im jm L
 both-for S erasing im jm L = both-erase S
 
 events-lie : (g : Geometry) (im : List ℕ) (s : Shape) → check (length im) s ≡ Accepted g → (c : Request) → Each (Lies g) (planFor g im c .events)
-events-lie g im s e c = let S = accepted-sound (length im) s g e in both-for S c im im (alike-self S im refl) .lies
+events-lie g im s e c = let S = accepted-from (length im) s g e .laid in both-for S c im im (alike-self S im refl) .lies
 
 -- ---- outside
 
@@ -50,11 +50,11 @@ module _ (s : Shape) (im : List ℕ) where
   lie-held : (g : Geometry) → check (length im) s ≡ Accepted g → (es : List Event) → Each (Lies g) es → Held s im es
   unfolding Held
   lie-held g e es h =
-      let F = frame-after (accepted-sound (length im) s g e) es im refl h in
+      let F = frame-after (accepted-from (length im) s g e .laid) es im refl h in
       rw (accepted-is (length im) s g e) (record {
         size = F .size;
-        below = rw (← starts-at (length im) s g e) (F .below);
-        above = F .above (s .end) (omega (arith, ends-at (length im) s g e));
+        below = rw (← accepted-from (length im) s g e .starts-at) (F .below);
+        above = F .above (s .end) (omega (arith, accepted-from (length im) s g e .ends-at));
       })
 
   -- what a call may do in place of its plan: nothing but the plan's own events
@@ -88,13 +88,13 @@ limited-none k a = by (ltb k (storeCount []))
 
 module _ (n : ℕ) (s : Shape) (g : Geometry) (q : check n s ≡ Accepted g) where
   size-is : s .end - s .start ≡ g .pages * g .page
-  size-is = omega (arith, range-end g, ends-at n s g q, starts-at n s g q)
+  size-is = omega (arith, range-end g, accepted-from n s g q .ends-at, accepted-from n s g q .starts-at)
 
   agree-alike : (im jm : List ℕ) → length im ≡ n → Agree s im jm → Alike g n im jm
-  agree-alike im jm l A = record { long = l; also = sym (A .0) ∙ l; same = rw (starts-at n s g q, ← size-is) (A .1) }
+  agree-alike im jm l A = record { long = l; also = sym (A .0) ∙ l; same = rw (accepted-from n s g q .starts-at, ← size-is) (A .1) }
 
   alike-agree : (im jm : List ℕ) → Alike g n im jm → Agree s im jm
-  alike-agree im jm L = (L .long ∙ sym (L .also), rw (size-is, ← starts-at n s g q) (L .same))
+  alike-agree im jm L = (L .long ∙ sym (L .also), rw (size-is, ← accepted-from n s g q .starts-at) (L .same))
 
 module _ (s : Shape) (im jm : List ℕ) (A : Agree s im jm) (c : Request) where
   no-say : requested s im c ≡ requested s jm c
@@ -103,7 +103,7 @@ module _ (s : Shape) (im jm : List ℕ) (A : Agree s im jm) (c : Request) where
     where
       on : (t : Checked) → check (length im) s ≡ t → planned t (λ g. planFor g im c) ≡ planned t (λ g. planFor g jm c)
       on (Refused r) q = refl
-      on (Accepted g) q = both-for (accepted-sound (length im) s g q) c im jm (agree-alike (length im) s g q im jm refl A) .one
+      on (Accepted g) q = both-for (accepted-from (length im) s g q .laid) c im jm (agree-alike (length im) s g q im jm refl A) .one
 
   -- what k stores leave
   module _ (k : ℕ) where
@@ -116,7 +116,7 @@ module _ (s : Shape) (im jm : List ℕ) (A : Agree s im jm) (c : Request) where
             Agree s (imageAfter (geometryOf s) es im) (imageAfter (geometryOf s) es jm))
         on (Refused r) q = rw (limited-none k (refused r)) A
         on (Accepted g) q =
-            let S = accepted-sound (length im) s g q in
+            let S = accepted-from (length im) s g q .laid in
             let h = limited-less k (Lies g) (planFor g im c) (events-lie g im s q c) in
             rw (accepted-is (length im) s g q)
             (alike-agree (length im) s g q _ _ (alike-after S (limited k (planFor g im c) .events) (agree-alike (length im) s g q im jm refl A) h))
@@ -129,7 +129,7 @@ module _ (s : Shape) (im jm : List ℕ) (A : Agree s im jm) (c : Request) where
             bufferAfter (geometryOf s) es im buf ≡ bufferAfter (geometryOf s) es jm buf)
         on (Refused r) q = rw (limited-none k (refused r))
         on (Accepted g) q =
-            let S = accepted-sound (length im) s g q in
+            let S = accepted-from (length im) s g q .laid in
             let h = limited-less k (Lies g) (planFor g im c) (events-lie g im s q c) in
             rw (accepted-is (length im) s g q) (alike-buffer S (limited k (planFor g im c) .events) (agree-alike (length im) s g q im jm refl A) h buf)
 

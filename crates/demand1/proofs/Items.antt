@@ -14,10 +14,10 @@ use Rattle.paper.specs.Checksum.{lengthCrc}
 use Rattle.paper.specs.Chip.{wordsFor, roundUp, headerSize, dataStart, dataSize, pageData, part}
 use Rattle.paper.specs.Slip.{Look, stop, bad, item, look, decode, blank, numberOf}
 use Rattle.paper.specs.Scan.{Head, onward, walk, pageWalk}
-use Rattle.chip.proofs.Rounding.{round-up-ge}
+use Rattle.laws.proofs.Parts.{part-part}
+use Rattle.laws.proofs.Rounding.{round-up-ge}
 use Rattle.demand1.specs.Range.{Each}
 use Rattle.demand1.proofs.Lists.{never}
-use Rattle.demand1.proofs.Puts.{part-part}
 
 -- ---- one look
 

@@ -1,8 +1,6 @@
 pub mod Lists
 pub mod Tells
 pub mod Checks
-pub mod Accepted
-pub mod Puts
 pub mod Items
 pub mod Pages
 pub mod Walks
@@ -28,7 +26,6 @@ pub mod Turning
 pub mod PushSteps
 pub mod PushRows
 pub mod Meets
-pub mod Ring
 pub mod Ways
 pub mod Searching
 pub mod WayRows

@@ -6,11 +6,12 @@ use native.Mathlib.Omega.{arith}
 use lib.ListN.{length, take, drop, replicate, length-drop, length-replicate}
 use Rattle.paper.specs.declared.Geometry.{Geometry}
 use Rattle.paper.specs.Chip.{pageStart, pageBytes, part, Event, store, erase, copy, put, ands, imageBy, imageAfter, bufferBy, bufferAfter}
-use Rattle.chip.proofs.Geometry.{page-in}
-use Rattle.chip.proofs.Stores.{put-nil}
+use Rattle.laws.proofs.Accepted.{Laid}
+use Rattle.laws.proofs.Ands.{ands-length, ands-take}
+use Rattle.laws.proofs.Parts.{part-part}
+use Rattle.laws.proofs.Places.{page-in}
+use Rattle.laws.proofs.Puts.{put-nil, length-put, take-before, drop-after, part-around}
 use Rattle.demand1.specs.Range.{Lies, Each}
-use Rattle.demand1.proofs.Accepted.{Sound}
-use Rattle.demand1.proofs.Puts.{part-part, length-put, take-before, drop-after, part-around, ands-length, ands-take}
 use Rattle.demand1.proofs.Pages.{layout}
 
 -- the range's bytes
@@ -42,7 +43,7 @@ pub range-end : (g : Geometry) → pageStart g (g .pages) ≡ g .start + g .page
 unfolding pageStart
 range-end g = refl
 
-module _ {g : Geometry} {n : ℕ} (S : Sound g n) where
+module _ {g : Geometry} {n : ℕ} (S : Laid g n) where
   alike-part : (im jm : List ℕ) → Alike g n im jm → (a m : ℕ) → g .start ≤ a → a + m ≤ pageStart g (g .pages) → part a m im ≡ part a m jm
   alike-part im jm A a m l h =
       let at : (x : List ℕ) → part (a - g .start) m (range g x) ≡ part a m x =

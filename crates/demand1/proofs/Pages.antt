@@ -1,23 +1,19 @@
--- Where pages lie, and that a page's bytes decide its marks, state and walk. Assumes nothing.
-use mathlib.Core.Path.{_≡_, refl, sym, ap, ap₂, _∙_}
+-- Where pages lie, and that a page's bytes decide its state and walk. Assumes nothing.
+use mathlib.Core.Path.{_≡_, refl}
 use mathlib.Core.List.{List}
 use Prim.Native.Nat.{ℕ, zero, suc, _+_, _-_, _*_, _≤_, _<_, _∣_}
-use native.Mathlib.Nat.{add-zero, add-assoc, mul-le-mul-right, suc-mul, dvd-add, dvd-sub, dvd-refl, dvd-mul-left, dvd-mul-left-of-dvd}
+use native.Mathlib.Nat.{add-assoc, dvd-add, dvd-sub, dvd-refl, dvd-mul-left, dvd-mul-left-of-dvd}
 use native.Mathlib.Omega.{arith}
 use Rattle.paper.specs.declared.Geometry.{Geometry}
-use Rattle.paper.specs.Chip.{roundUp, headerSize, pageStart, dataStart, dataSize, dataEnd, pageBytes, pageData, part}
-use Rattle.paper.specs.Scan.{walk, pageWalk}
-use Rattle.paper.specs.Pages.{stateBy, isSet, startMark, endMark, state, next, around, from, allPages}
-use Rattle.page.proofs.Rings.{next-in}
+use Rattle.paper.specs.Chip.{roundUp, headerSize, pageStart, dataStart, dataSize, dataEnd, pageBytes}
+use Rattle.paper.specs.Scan.{pageWalk}
+use Rattle.paper.specs.Pages.{state, next, around, from, allPages}
+use Rattle.laws.proofs.Accepted.{Laid}
+use Rattle.laws.proofs.PageBytes as page-bytes
+use Rattle.laws.proofs.Ring.{next-in}
 use Rattle.demand1.specs.Range.{Each}
-use Rattle.demand1.proofs.Accepted.{Sound}
-use Rattle.demand1.proofs.Puts.{part-part}
 
 -- ---- where they lie
-
-pub page-apart : (g : Geometry) (p q : ℕ) → p < q → pageStart g p + g .page ≤ pageStart g q
-unfolding pageStart
-page-apart g p q h = omega (arith, mul-le-mul-right {m = suc p} {n = q} (g .page) h, suc-mul p (g .page))
 
 pub round-up-whole : (w n : ℕ) → w ∣ roundUp w n
 unfolding roundUp
@@ -38,7 +34,7 @@ pub record Layout (g : Geometry) (p : ℕ) : Type 0 where
   pub end-whole : g .word ∣ dataEnd g p
   pub size-whole : g .word ∣ dataSize g
 
-pub layout : {g : Geometry} {n : ℕ} → Sound g n → (p : ℕ) → Layout g p
+pub layout : {g : Geometry} {n : ℕ} → Laid g n → (p : ℕ) → Layout g p
 unfolding pageStart dataStart dataEnd dataSize
 layout {g} S p =
     let w : ℕ = g .word in
@@ -58,33 +54,15 @@ layout {g} S p =
 
 -- ---- what their bytes decide
 
-module _ {g : Geometry} {n : ℕ} (S : Sound g n) (im : List ℕ) (p : ℕ) where
-  start-part : startMark g im p ≡ part 0 (g .word) (pageBytes g im p)
-  unfolding startMark pageBytes
-  start-part =
-      sym (part-part (pageStart g p) (g .page) 0 (g .word) im (omega (arith, layout S p .split))
-      ∙ ap (λ (a : ℕ). part a (g .word) im) (add-zero (pageStart g p)))
+module _ {g : Geometry} {n : ℕ} (S : Laid g n) (im jm : List ℕ) (p : ℕ) (e : pageBytes g im p ≡ pageBytes g jm p) where
+  marks : 2 * g .word ≤ g .page
+  marks = omega (arith, S .room)
 
-  end-part : endMark g im p ≡ part (g .word + dataSize g) (g .word) (pageBytes g im p)
-  unfolding endMark pageBytes
-  end-part =
-      ap (λ (a : ℕ). part a (g .word) im) (layout S p .end-at)
-      ∙ sym (part-part (pageStart g p) (g .page) (g .word + dataSize g) (g .word) im (omega (arith, layout S p .split)))
-
-  data-part : pageData g im p ≡ part (g .word) (dataSize g) (pageBytes g im p)
-  unfolding pageData pageBytes
-  data-part =
-      ap (λ (a : ℕ). part a (dataSize g) im) (layout S p .data-at)
-      ∙ sym (part-part (pageStart g p) (g .page) (g .word) (dataSize g) im (omega (arith, layout S p .split)))
-
-module _ {g : Geometry} {n : ℕ} (S : Sound g n) (im jm : List ℕ) (p : ℕ) (e : pageBytes g im p ≡ pageBytes g jm p) where
   pub state-same : state g im p ≡ state g jm p
-  unfolding state
-  state-same = ap₂ (λ (a b : List ℕ). stateBy (isSet a) (isSet b)) (rw (start-part S im p, start-part S jm p, e)) (rw (end-part S im p, end-part S jm p, e))
+  state-same = page-bytes.state-same g marks im jm p e
 
   pub walk-same : pageWalk g im p ≡ pageWalk g jm p
-  unfolding pageWalk
-  walk-same = ap (λ (d : List ℕ). walk g 0 (dataStart g p) d) (rw (data-part S im p, data-part S jm p, e))
+  walk-same = page-bytes.walk-same g marks im jm p e
 
 -- ---- the ring
 

@@ -16,10 +16,9 @@ use Rattle.paper.specs.Scan.{pageWalk, freeSpot, serves, anyLive}
 use Rattle.paper.specs.Pages.{state, same, setStart, setEnd, next, youngest}
 use Rattle.paper.specs.Refusals.{lengthLimit}
 use Rattle.paper.specs.Calls.{Spot, full, at, tooBig, takePage, turnPage, findSpot, spotOn, spotStep, spotFor, pushAt, push}
-use Rattle.chip.proofs.Checking.{neither}
-use Rattle.page.proofs.Rings.{next-in}
+use Rattle.laws.proofs.Accepted.{neither, Laid}
+use Rattle.laws.proofs.Ring.{next-in}
 use Rattle.demand1.specs.Range.{Lies, Each}
-use Rattle.demand1.proofs.Accepted.{Sound}
 use Rattle.demand1.proofs.Pages.{layout}
 use Rattle.demand1.proofs.Walks.{Room, spot-room, page-room, header-behind}
 use Rattle.demand1.proofs.Lying.{Alike}
@@ -36,7 +35,7 @@ SpotFits g m (at a) = Room g a m
 abbrev SpotFine : Geometry → ℕ → Try Unit Spot → Type 0
 SpotFine g m = Tried Any (SpotFits g m)
 
-module _ {g : Geometry} {n : ℕ} (S : Sound g n) (m : ℕ) (small : tooBig g m ≡ false) where
+module _ {g : Geometry} {n : ℕ} (S : Laid g n) (m : ℕ) (small : tooBig g m ≡ false) where
   -- what is not too big fits an empty page
   fits : headerSize g + roundUp (g .word) m ≤ dataSize g
   unfolding tooBig roundDown
@@ -87,7 +86,7 @@ module _ {g : Geometry} {n : ℕ} (S : Sound g n) (m : ℕ) (small : tooBig g m 
   both-spotFor over im jm L = both-steps S Any (SpotFits g m) (spotStep g m over)
       (λ w v im jm L. rw (← youngest-same S L) (both-spot over (youngest g im) (youngest-in g im (S .some)) im jm L)) tt tt im jm L
 
-module _ {g : Geometry} {n : ℕ} (S : Sound g n) (slip : List ℕ) where
+module _ {g : Geometry} {n : ℕ} (S : Laid g n) (slip : List ℕ) where
   both-item : (t : Try Unit Spot) → SpotFine g (length slip) t → (im jm : List ℕ) → Alike g n im jm → Both g Any (pushAt g slip t im) (pushAt g slip t jm)
   unfolding pushAt
   both-item (fails u) h im jm L = record { one = refl; lies = tt; fine = tt }

@@ -13,15 +13,15 @@ use Rattle.paper.specs.Pages.{repair}
 use Rattle.paper.specs.Refusals.{refused}
 use Rattle.paper.specs.Calls.{Spot, full, at, tooBig, spotStep, spotFor, pushAt, push}
 use Rattle.paper.specs.Fifo.{Full}
+use Rattle.laws.proofs.Accepted.{Laid}
 use Rattle.demand1.specs.Rows.{repaired, Fails, failed, OnlyMark, OnStep, TooBig, OfPush}
 use Rattle.demand1.proofs.Lists.{never}
 use Rattle.demand1.proofs.Tells.{Tells, tells-lt, tells-or, tells-same, told-yes, told-no}
-use Rattle.demand1.proofs.Accepted.{Sound}
 use Rattle.demand1.proofs.Repairs.{repaired-long}
 use Rattle.demand1.proofs.Steps.{is-fails, fails-not, steps-gives, steps-again}
 use Rattle.demand1.proofs.PushSteps.{FullStep, step-quiet, step-full, full-step}
 
-module _ {g : Geometry} {n : ℕ} (S : Sound g n) (im : List ℕ) (long : length im ≡ n) (slip : List ℕ) (over : Bool) where
+module _ {g : Geometry} {n : ℕ} (S : Laid g n) (im : List ℕ) (long : length im ≡ n) (slip : List ℕ) (over : Bool) where
   abbrev step : List ℕ → Plan (Try Unit Spot)
   step i = spotStep g (length slip) over tt i
 

@@ -13,19 +13,20 @@ use Rattle.paper.specs.Scan.{pageWalk}
 use Rattle.paper.specs.Pages.{state, same, setStart, next, youngest}
 use Rattle.paper.specs.Calls.{Spot, full, findSpot, spotOn, spotStep}
 use Rattle.paper.specs.Fifo.{Full}
-use Rattle.page.proofs.Rings.{next-in}
+use Rattle.laws.proofs.Accepted.{Laid}
+use Rattle.laws.proofs.Ring.{next-in}
+use Rattle.laws.proofs.Sides.{Apart, is, differs, apart}
 use Rattle.demand1.specs.Rows.{MarkOf}
 use Rattle.demand1.proofs.Lists.{never}
-use Rattle.demand1.proofs.Accepted.{Sound}
 use Rattle.demand1.proofs.Pages.{state-same, walk-same}
 use Rattle.demand1.proofs.Does.{Tried, Any}
 use Rattle.demand1.proofs.Searches.{youngest-in}
-use Rattle.demand1.proofs.Frames.{Apart, is, differs, apart, mark-other, mark-walk, mark-partial}
+use Rattle.demand1.proofs.Frames.{mark-other, mark-walk, mark-partial}
 use Rattle.demand1.proofs.Found.{Young, partly, opens, young}
 use Rattle.demand1.proofs.Turning.{NoRoom, find-full, find-fails, find-no-room}
 
 -- the step of a push of m bytes on the image im
-module _ {g : Geometry} {n : ℕ} (S : Sound g n) (m : ℕ) (im : List ℕ) (long : length im ≡ n) where
+module _ {g : Geometry} {n : ℕ} (S : Laid g n) (m : ℕ) (im : List ℕ) (long : length im ≡ n) where
   young-in : (y : ℕ) → youngest g im ≡ gives y → y < g .pages
   young-in y e = subst (Tried {W = Unit {0}} Any (λ p. p < g .pages)) e (youngest-in g im (S .some))
 

@@ -11,14 +11,15 @@ use Rattle.paper.specs.declared.Geometry.{Geometry}
 use Rattle.paper.specs.declared.PageState.the-variants.{Open, Corrupted}
 use Rattle.paper.specs.Chip.{pageBytes, erase, erasePage, imageBy, imageAfter}
 use Rattle.paper.specs.Pages.{state, same, next, around, from, allPages, repairs, repair}
+use Rattle.laws.proofs.Accepted.{Laid}
+use Rattle.laws.proofs.Sides.{Apart, is, differs, apart}
 use Rattle.demand1.specs.Range.{Each}
 use Rattle.demand1.specs.Rows.{repaired}
 use Rattle.demand1.proofs.Lists.{never}
-use Rattle.demand1.proofs.Accepted.{Sound}
 use Rattle.demand1.proofs.Pages.{state-same, all-in}
 use Rattle.demand1.proofs.Lying.{frame-after}
 use Rattle.demand1.proofs.Searches.{repair-lies}
-use Rattle.demand1.proofs.Frames.{Apart, is, differs, apart, erase-long, erase-other, erase-open}
+use Rattle.demand1.proofs.Frames.{erase-long, erase-other, erase-open}
 
 -- what holds of all pages, in page order, holds of each
 around-of : (g : Geometry) (P : ℕ → Type 0) (k i p : ℕ) → i < k → p + i < g .pages → Each P (around g k p) → P (p + i)
@@ -39,7 +40,7 @@ pub data Mended (g : Geometry) (im jm : List ℕ) (p : ℕ) : Type 0 where
   opened : same (state g im p) Corrupted ≡ true → state g jm p ≡ Open → Mended g im jm p
   kept : same (state g im p) Corrupted ≡ false → pageBytes g jm p ≡ pageBytes g im p → Mended g im jm p
 
-module _ {g : Geometry} {n : ℕ} (S : Sound g n) (im : List ℕ) where
+module _ {g : Geometry} {n : ℕ} (S : Laid g n) (im : List ℕ) where
   -- a page stays Open, whatever else is erased
   erase-stays : (p q : ℕ) (jm : List ℕ) → length jm ≡ n → p < g .pages → q < g .pages → state g jm p ≡ Open → state g (imageBy g (erase q) jm) p ≡ Open
   erase-stays p q jm long hp hq o = by (apart p q)

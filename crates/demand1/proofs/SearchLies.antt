@@ -11,9 +11,9 @@ use Rattle.paper.specs.Chip.{roundUp, headerSize, copy, erasePage, Plan, plan, 
 use Rattle.paper.specs.Scan.{Head, pageWalk, live, present}
 use Rattle.paper.specs.Pages.{state, same, next}
 use Rattle.paper.specs.Calls.{Met, passed, long, met, readHeads, Stand, onPage, afterPage, Outcome, nothing, short, this, spoilt, onMet, readPage, leavePage, nextItem, nextStep, startStep, searchOn, search, shownBy, popped, peek, pop}
-use Rattle.page.proofs.Rings.{next-in}
+use Rattle.laws.proofs.Accepted.{Laid}
+use Rattle.laws.proofs.Ring.{next-in}
 use Rattle.demand1.specs.Range.{Lies, Each}
-use Rattle.demand1.proofs.Accepted.{Sound}
 use Rattle.demand1.proofs.Walks.{Placed, heads-placed}
 use Rattle.demand1.proofs.Lying.{Alike}
 use Rattle.demand1.proofs.Does.{Tried, Any}
@@ -37,7 +37,7 @@ StandIn g (onPage p) = p < g .pages
 StandIn g (afterPage p) = p < g .pages
 
 -- b is the buffer's size
-module _ {g : Geometry} {n : ℕ} (S : Sound g n) (b : ℕ) where
+module _ {g : Geometry} {n : ℕ} (S : Laid g n) (b : ℕ) where
   both-heads : (hs : List Head) → Each (Placed g) hs → (im jm : List ℕ) → Alike g n im jm → Both g (MetPlaced g) (readHeads g b hs im) (readHeads g b hs jm)
   unfolding readHeads
   both-heads [] e im jm L = record { one = refl; lies = tt; fine = tt }

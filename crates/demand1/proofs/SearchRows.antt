@@ -12,15 +12,15 @@ use Rattle.paper.specs.Scan.{Head, pageWalk, payloads}
 use Rattle.paper.specs.Pages.{state, from, oldest, repair}
 use Rattle.paper.specs.Refusals.{shown, empty, refused}
 use Rattle.paper.specs.Calls.{Outcome, nothing, short, this, spoilt, withRepair, startStep, searchOn, search, shownBy, popped, peek, pop}
+use Rattle.laws.proofs.Accepted.{Laid}
+use Rattle.laws.proofs.Marks.{same-is}
 use Rattle.demand1.specs.Range.{Each}
 use Rattle.demand1.specs.Shapes.{Iff}
 use Rattle.demand1.specs.Rows.{repaired, Fails, onTheWay, Passed, TooLong, Seen, Way, direct, mended, Finished, OfSearch}
-use Rattle.demand1.proofs.Accepted.{Sound}
 use Rattle.demand1.proofs.Lists.{each-append, each-weaker, never}
 use Rattle.demand1.proofs.Pages.{state-same, walk-same}
 use Rattle.demand1.proofs.Does.{Tried, Any, repair-does}
 use Rattle.demand1.proofs.Searches.{oldest-in}
-use Rattle.demand1.proofs.Frames.{same-true}
 use Rattle.demand1.proofs.Repairs.{Mended, opened, kept, repaired-long}
 use Rattle.demand1.proofs.Repairs as repairs
 use Rattle.demand1.proofs.Steps.{is-fails, fails-not, steps-gives, steps-again}
@@ -34,7 +34,7 @@ clears-finished g im (store a word) h = h
 clears-finished g im (erase p) h = h .1
 clears-finished g im (copy a n) h = tt
 
-module _ {g : Geometry} {n : ℕ} (S : Sound g n) (im : List ℕ) (size : length im ≡ n) (b : ℕ) where
+module _ {g : Geometry} {n : ℕ} (S : Laid g n) (im : List ℕ) (size : length im ≡ n) (b : ℕ) where
   -- what is known of a search
   record Searched (p : Plan Outcome) : Type 0 where
     pub goes : {hs : List Head} → Way g im hs → p .answer ≡ outcome (meet g b hs)
@@ -54,12 +54,12 @@ module _ {g : Geometry} {n : ℕ} (S : Sound g n) (im : List ℕ) (size : length
     where
       by : Mended g im (repaired g im) p → (state g (repaired g im) p ≡ Corrupted) ⊎ (payloads (pageWalk g (repaired g im) p .heads) ≡ [])
           → (state g im p ≡ Corrupted) ⊎ (payloads (pageWalk g im p .heads) ≡ [])
-      by (opened c o) f = inl (same-true (state g im p) Corrupted c)
+      by (opened c o) f = inl (same-is (state g im p) Corrupted c)
       by (kept c e) (inl f) = inl (sym (state-same S (repaired g im) im p e) ∙ f)
       by (kept c e) (inr f) = inr (rw (← walk-same S (repaired g im) im p e) f)
 
   repair-clears : Each (Clears g im) (repair g im)
-  repair-clears = repair-does g im (Clears g im) (S .some) (λ p h c. (h, inl (same-true (state g im p) Corrupted c)))
+  repair-clears = repair-does g im (Clears g im) (S .some) (λ p h c. (h, inl (same-is (state g im p) Corrupted c)))
 
   -- the oldest page is found in the image jm, which the events es leave
   searched-from : (jm : List ℕ) (es : List Event) → length jm ≡ n → Each (Clears g im) es → ((e : Event) → Clears g jm e → Clears g im e)

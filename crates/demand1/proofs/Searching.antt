@@ -12,23 +12,22 @@ use Rattle.paper.specs.declared.PageState.the-variants.{Open, Corrupted}
 use Rattle.paper.specs.Chip.{pageBytes, Event, imageAfter, Plan, plan, bind, Try, gives, settled}
 use Rattle.paper.specs.Pages.{state, same, next, around, from, oldest, repair}
 use Rattle.paper.specs.Calls.{long, Stand, onPage, afterPage, Outcome, nothing, spoilt, leavePage, nextItem, nextStep, withRepair, searchOn}
-use Rattle.page.proofs.Rings.{next-in}
+use Rattle.laws.proofs.Accepted.{Laid}
+use Rattle.laws.proofs.Marks.{same-is}
+use Rattle.laws.proofs.Ring.{next-in, turn-zero}
 use Rattle.demand1.specs.Range.{Each}
 use Rattle.demand1.specs.Rows.{repaired, onTheWay}
-use Rattle.demand1.proofs.Accepted.{Sound}
 use Rattle.demand1.proofs.Lists.{each-append, never}
 use Rattle.demand1.proofs.Pages.{state-same}
 use Rattle.demand1.proofs.Does.{repair-does}
-use Rattle.demand1.proofs.Frames.{same-true}
 use Rattle.demand1.proofs.Meets.{meet}
 use Rattle.demand1.proofs.Repairs.{Mended, opened, kept, mended}
 use Rattle.demand1.proofs.Found.{old-sound}
 use Rattle.demand1.proofs.Steps.{steps-gives, steps-fails}
-use Rattle.demand1.proofs.Ring.{turn-zero}
 use Rattle.demand1.proofs.Ways.{outcome, Clears, Known, Ahead, Came, ends, stuck, Comes, ways}
 
 -- im is the image that the search began with, b the buffer's size, old the oldest page
-module _ {g : Geometry} {n : ℕ} (S : Sound g n) (im : List ℕ) (b old : ℕ) (ho : old < g .pages) where
+module _ {g : Geometry} {n : ℕ} (S : Laid g n) (im : List ℕ) (b old : ℕ) (ho : old < g .pages) where
   begins : length im ≡ n → oldest g im ≡ gives old → Ahead S im b old ho 0 im
   begins size e = record {
     known = record { long = size; pages = λ q h. inr refl };
@@ -39,7 +38,7 @@ module _ {g : Geometry} {n : ℕ} (S : Sound g n) (im : List ℕ) (b old : ℕ) 
   step-comes : length im ≡ n → oldest g im ≡ gives old → Comes S im b old ho (onTheWay g im old (from g old)) im (nextStep g b old (onPage old) im)
   unfolding nextStep from
   step-comes size e =
-      subst (λ (p : ℕ). Comes S im b old ho (onTheWay g im old (around g (g .pages) p)) im (nextItem g b old (2 * g .pages) (onPage p) im)) (turn-zero (g .pages) old ho)
+      subst (λ (p : ℕ). Comes S im b old ho (onTheWay g im old (around g (g .pages) p)) im (nextItem g b old (2 * g .pages) (onPage p) im)) (turn-zero g old ho)
       (ways S im b old ho (g .pages) 0 (omega arith) im (begins size e))
 
   -- what is Corrupted later was so from the start
@@ -47,8 +46,8 @@ module _ {g : Geometry} {n : ℕ} (S : Sound g n) (im : List ℕ) (b old : ℕ) 
   repair-clears cur K = repair-does g cur (Clears g im) (S .some) (λ p h c. (h, inl (by p c (K .pages p h))))
     where
       by : (p : ℕ) → same (state g cur p) Corrupted ≡ true → (state g cur p ≡ Open) ⊎ (pageBytes g cur p ≡ pageBytes g im p) → state g im p ≡ Corrupted
-      by p c (inl o) = let s = same-true (state g cur p) Corrupted c in cc
-      by p c (inr e) = sym (state-same S cur im p e) ∙ same-true (state g cur p) Corrupted c
+      by p c (inl o) = let s = same-is (state g cur p) Corrupted c in cc
+      by p c (inr e) = sym (state-same S cur im p e) ∙ same-is (state g cur p) Corrupted c
 
   -- after the repair the page before which the search was stuck is Open, and it ends there
   repaired-open : (cur : List ℕ) → length cur ≡ n → (p : ℕ) → p < g .pages → state g cur p ≡ Corrupted → state g (repaired g cur) p ≡ Open

@@ -14,10 +14,10 @@ use Rattle.paper.specs.Slip.{encode}
 use Rattle.paper.specs.Scan.{Head, pageWalk, live, present}
 use Rattle.paper.specs.Pages.{state, same, next, repair}
 use Rattle.paper.specs.Calls.{Met, passed, long, met, readHeads, Stand, onPage, afterPage, Outcome, nothing, this, spoilt, onMet, readPage, leavePage, nextItem, nextStep, retry, withRepair, startStep, searchOn, search, popped, peek, pop}
+use Rattle.laws.proofs.Parts.{length-part}
 use Rattle.demand1.specs.Range.{Each}
 use Rattle.demand1.specs.Buffers.{Copies}
 use Rattle.demand1.proofs.Lists.{each-append, never}
-use Rattle.demand1.proofs.Puts.{length-part}
 use Rattle.demand1.proofs.Items.{Whole, page-whole}
 use Rattle.demand1.proofs.Does.{writes-store}
 use Rattle.demand1.proofs.Tails.{tail-stays}

@@ -6,9 +6,9 @@ use native.Mathlib.Omega.{arith}
 use lib.ListN.{length, drop, length-take}
 use Rattle.paper.specs.declared.Geometry.{Geometry}
 use Rattle.paper.specs.Chip.{part, Event, store, erase, copy, imageBy, bufferBy, bufferAfter}
+use Rattle.laws.proofs.Puts.{length-put, drop-after}
 use Rattle.demand1.specs.Range.{Each}
 use Rattle.demand1.specs.Buffers.{Copies}
-use Rattle.demand1.proofs.Puts.{length-put, drop-after}
 
 pub tail-stays : (g : Geometry) (im buf : List ℕ) (es : List Event) (m : ℕ) → Each (Copies m) es → m ≤ length buf
     → (length (bufferAfter g es im buf) ≡ length buf) × (drop m (bufferAfter g es im buf) ≡ drop m buf)

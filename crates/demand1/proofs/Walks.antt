@@ -11,12 +11,12 @@ use Rattle.paper.specs.declared.Geometry.{Geometry}
 use Rattle.paper.specs.Chip.{roundUp, roundDown, headerSize, pageStart, dataStart, dataSize, dataEnd, pageData, part}
 use Rattle.paper.specs.Slip.{Look, stop, bad, item, look}
 use Rattle.paper.specs.Scan.{Head, Walk, onward, walk, pageWalk, freeSpot, serves}
-use Rattle.chip.proofs.Rounding.{round-up-ge, round-up-behind, round-down-le}
-use Rattle.chip.proofs.Geometry.{page-in}
+use Rattle.laws.proofs.Accepted.{Laid}
+use Rattle.laws.proofs.Parts.{length-part}
+use Rattle.laws.proofs.Places.{page-in}
+use Rattle.laws.proofs.Rounding.{round-up-ge, round-up-behind, round-down-le}
 use Rattle.demand1.specs.Range.{Each}
-use Rattle.demand1.proofs.Accepted.{Sound}
 use Rattle.demand1.proofs.Lists.{each-weaker}
-use Rattle.demand1.proofs.Puts.{length-part}
 use Rattle.demand1.proofs.Items.{look-room}
 use Rattle.demand1.proofs.Pages.{layout, round-up-whole, header-whole}
 
@@ -90,7 +90,7 @@ pub record Room (g : Geometry) (a n : ℕ) : Type 0 where
 abbrev pub Placed : Geometry → Head → Type 0
 Placed g h = Room g (h .place) (h .len)
 
-module _ {g : Geometry} {n : ℕ} (S : Sound g n) (im : List ℕ) (long : length im ≡ n) (p : ℕ) (h : p < g .pages) where
+module _ {g : Geometry} {n : ℕ} (S : Laid g n) (im : List ℕ) (long : length im ≡ n) (p : ℕ) (h : p < g .pages) where
   page-walked : Walked g (dataStart g p) (dataEnd g p) (pageWalk g im p)
   unfolding pageWalk pageData
   page-walked =

@@ -14,15 +14,17 @@ use Rattle.paper.specs.Chip.{pageBytes, Event, store, erase, copy, erasePage, i
 use Rattle.paper.specs.Scan.{Head, pageWalk, payloads}
 use Rattle.paper.specs.Pages.{state, same, next, around}
 use Rattle.paper.specs.Calls.{Met, passed, long, met, readHeads, Stand, onPage, afterPage, Outcome, nothing, short, this, onMet, readPage, leavePage, nextItem}
-use Rattle.chip.proofs.Running.{image-append}
+use Rattle.laws.proofs.Accepted.{Laid}
+use Rattle.laws.proofs.Events.{image-append}
+use Rattle.laws.proofs.Marks.{same-is}
+use Rattle.laws.proofs.Ring.{turn, turn-full, turn-lt, turn-once, next-turn}
+use Rattle.laws.proofs.Sides.{Apart, is, differs, apart}
 use Rattle.demand1.specs.Range.{Each}
 use Rattle.demand1.specs.Rows.{onTheWay}
-use Rattle.demand1.proofs.Accepted.{Sound}
 use Rattle.demand1.proofs.Lists.{each-append, each-weaker, never}
 use Rattle.demand1.proofs.Pages.{state-same, walk-same}
-use Rattle.demand1.proofs.Frames.{same-true, Apart, is, differs, apart, erase-long, erase-other, erase-open}
+use Rattle.demand1.proofs.Frames.{erase-long, erase-other, erase-open}
 use Rattle.demand1.proofs.Meets.{Copied, copied-image, heads-copied, meet, meets, thenMeet, meet-append, passed-payloads, Meets, all, tooLong, seen, meet-is}
-use Rattle.demand1.proofs.Ring.{turn, turn-full, turn-in, turn-once, turn-next}
 
 -- what a search comes to, by what its headers come to
 abbrev pub outcome : Met → Outcome
@@ -42,7 +44,7 @@ copied-clears g im (erase p) h = absurd h
 copied-clears g im (copy a n) h = tt
 
 -- im is the image that the search began with, b the buffer's size, old the oldest page
-module _ {g : Geometry} {n : ℕ} (S : Sound g n) (im : List ℕ) (b old : ℕ) (ho : old < g .pages) where
+module _ {g : Geometry} {n : ℕ} (S : Laid g n) (im : List ℕ) (b old : ℕ) (ho : old < g .pages) where
   -- every page was erased, or is as it was
   pub record Known (cur : List ℕ) : Type 0 where
     pub long : length cur ≡ n
@@ -51,7 +53,7 @@ module _ {g : Geometry} {n : ℕ} (S : Sound g n) (im : List ℕ) (b old : ℕ) 
   -- the pages from the i-th on are as they were, and the oldest is not Corrupted
   pub record Ahead (i : ℕ) (cur : List ℕ) : Type 0 where
     pub known : Known cur
-    pub fresh : (j : ℕ) → i ≤ j → j < g .pages → pageBytes g cur (turn (g .pages) old j) ≡ pageBytes g im (turn (g .pages) old j)
+    pub fresh : (j : ℕ) → i ≤ j → j < g .pages → pageBytes g cur (turn g old j) ≡ pageBytes g im (turn g old j)
     pub safe : same (state g cur old) Corrupted ≡ false
 
   -- what a plan from the image cur comes to, where hs are the headers on its way: it ends; or it is stuck before a Corrupted page
@@ -75,21 +77,21 @@ module _ {g : Geometry} {n : ℕ} (S : Sound g n) (im : List ℕ) (b old : ℕ) 
       by q k (differs e) (inl o) = inl (state-same S (imageBy g (erase p) cur) cur q (erase-other S cur (K .long) p h q k e) ∙ o)
       by q k (differs e) (inr o) = inr (erase-other S cur (K .long) p h q k e ∙ o)
 
-  erase-ahead : (i : ℕ) → i < g .pages → (cur : List ℕ) → Ahead i cur → Ahead (suc i) (imageBy g (erase (turn (g .pages) old i)) cur)
+  erase-ahead : (i : ℕ) → i < g .pages → (cur : List ℕ) → Ahead i cur → Ahead (suc i) (imageBy g (erase (turn g old i)) cur)
   erase-ahead i k cur A = record {
     known = erase-known p h cur (A .known);
-    fresh = λ j l r. erase-other S cur (A .known .long) p h (turn (g .pages) old j) (turn-in (g .pages) old ho j r) (not-yet j l r) ∙ A .fresh j (omega arith) r;
+    fresh = λ j l r. erase-other S cur (A .known .long) p h (turn g old j) (turn-lt g old j ho (omega arith)) (not-yet j l r) ∙ A .fresh j (omega arith) r;
     safe = by (apart old p);
   }
     where
       p : ℕ
-      p = turn (g .pages) old i
+      p = turn g old i
 
-      h : turn (g .pages) old i < g .pages
-      h = turn-in (g .pages) old ho i k
+      h : turn g old i < g .pages
+      h = turn-lt g old i ho (omega arith)
 
-      not-yet : (j : ℕ) → suc i ≤ j → j < g .pages → turn (g .pages) old j ≡ p → ⊥
-      not-yet j l r e = let z = turn-once (g .pages) old ho j i r k e in omega arith
+      not-yet : (j : ℕ) → suc i ≤ j → j < g .pages → turn g old j ≡ p → ⊥
+      not-yet j l r e = let z = turn-once g old j i ho r k e in omega arith
 
       by : Apart old p → same (state g (imageBy g (erase p) cur) old) Corrupted ≡ false
       by (is e) = rw (ap (state g (imageBy g (erase p) cur)) e ∙ erase-open S cur (A .known .long) p h)
@@ -102,15 +104,15 @@ module _ {g : Geometry} {n : ℕ} (S : Sound g n) (im : List ℕ) (b old : ℕ) 
     round : q ≡ old → same (state g cur q) Corrupted ≡ false → Next cur q
     onward : state g cur q ≡ state g im q → Next cur q
 
-  next-page : (i k : ℕ) (cur : List ℕ) → i + suc k ≡ g .pages → Ahead i cur → Next cur (next g (turn (g .pages) old i))
-  next-page i k cur e A = subst (Next cur) (sym (turn-next g old i ho (omega arith))) (by k e)
+  next-page : (i k : ℕ) (cur : List ℕ) → i + suc k ≡ g .pages → Ahead i cur → Next cur (next g (turn g old i))
+  next-page i k cur e A = subst (Next cur) (sym (next-turn g old i ho (omega arith))) (by k e)
     where
-      by : (k : ℕ) → i + suc k ≡ g .pages → Next cur (turn (g .pages) old (suc i))
+      by : (k : ℕ) → i + suc k ≡ g .pages → Next cur (turn g old (suc i))
       by zero e =
           let z : suc i ≡ g .pages = omega arith in
-          let o : turn (g .pages) old (suc i) ≡ old = ap (turn (g .pages) old) z ∙ turn-full (g .pages) old ho in
+          let o : turn g old (suc i) ≡ old = ap (turn g old) z ∙ turn-full g old ho in
           round o (rw o (A .safe))
-      by (suc k) e = onward (state-same S cur im (turn (g .pages) old (suc i)) (A .fresh (suc i) (omega arith) (omega arith)))
+      by (suc k) e = onward (state-same S cur im (turn g old (suc i)) (A .fresh (suc i) (omega arith) (omega arith)))
 
   abbrev stops : List ℕ → ℕ → Bool
   stops jm q = same (state g jm q) Open || same (state g jm q) Corrupted || eqb q old
@@ -133,8 +135,8 @@ module _ {g : Geometry} {n : ℕ} (S : Sound g n) (im : List ℕ) (b old : ℕ) 
 
       by : (o c r : Bool) → same (state g im (next g p)) Corrupted ≡ c
           → Comes (cond (o || c || r) [] later) cur (cond c (plan [] (fails (afterPage p))) (cond (o || r) (plan [] (gives nothing)) (andThen g cur (erasePage g p) further)))
-      by true true r q = record { clears = tt; came = stuck p h refl refl (e ∙ same-true (state g im (next g p)) Corrupted q) quiet }
-      by false true r q = record { clears = tt; came = stuck p h refl refl (e ∙ same-true (state g im (next g p)) Corrupted q) quiet }
+      by true true r q = record { clears = tt; came = stuck p h refl refl (e ∙ same-is (state g im (next g p)) Corrupted q) quiet }
+      by false true r q = record { clears = tt; came = stuck p h refl refl (e ∙ same-is (state g im (next g p)) Corrupted q) quiet }
       by true false r q = record { clears = tt; came = ends refl }
       by false false true q = record { clears = tt; came = ends refl }
       by false false false q = record { clears = ((h, inr none), C .clears); came = turned (C .came) }
@@ -186,15 +188,15 @@ module _ {g : Geometry} {n : ℕ} (S : Sound g n) (im : List ℕ) (b old : ℕ) 
   -- ---- all the way
 
   pub ways : (k i : ℕ) → i + k ≡ g .pages → (cur : List ℕ) → Ahead i cur
-      → Comes (onTheWay g im old (around g k (turn (g .pages) old i))) cur (nextItem g b old (2 * k) (onPage (turn (g .pages) old i)) cur)
+      → Comes (onTheWay g im old (around g k (turn g old i))) cur (nextItem g b old (2 * k) (onPage (turn g old i)) cur)
   unfolding onTheWay around nextItem readPage meet
   ways zero i e cur A = record { clears = tt; came = ends refl }
   ways (suc k) i e cur A =
-      let p : ℕ = turn (g .pages) old i in
+      let p : ℕ = turn g old i in
       let h : i < g .pages = omega arith in
       let z : 2 * suc k ≡ suc (suc (2 * k)) = omega arith in
-      let nx = turn-next g old i ho h in
+      let nx = next-turn g old i ho h in
       rw (z, walk-same S cur im p (A .fresh i (omega arith) h))
       (come-heads (pageWalk g im p .heads) cur (leavePage g old p (nextItem g b old (2 * k) (onPage (next g p)))) _
-      (λ none. come-leave p (turn-in (g .pages) old ho i h) cur (nextItem g b old (2 * k) (onPage (next g p))) _ (A .known) (next-page i k cur e A) none
+      (λ none. come-leave p (turn-lt g old i ho (omega arith)) cur (nextItem g b old (2 * k) (onPage (next g p))) _ (A .known) (next-page i k cur e A) none
       (rw nx (ways k (suc i) (omega arith) (imageBy g (erase p) cur) (erase-ahead i h cur A)))))

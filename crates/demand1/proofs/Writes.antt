@@ -11,16 +11,16 @@ use Rattle.paper.specs.Chip.{wordsFor, roundUp, headerSize, pageStart, words, w
 use Rattle.paper.specs.Slip.{bytesOf, encode}
 use Rattle.paper.specs.Pages.{setStart, setEnd}
 use Rattle.paper.specs.Calls.{itemAt}
-use Rattle.chip.proofs.Rounding.{round-up-again}
-use Rattle.chip.proofs.Writing.{length-padded}
-use Rattle.chip.proofs.Geometry.{page-in}
+use Rattle.laws.proofs.Accepted.{Laid}
+use Rattle.laws.proofs.Parts.{length-padded}
+use Rattle.laws.proofs.Places.{page-in}
+use Rattle.laws.proofs.Rounding.{round-up-again}
 use Rattle.demand1.specs.Range.{Lies, Each}
-use Rattle.demand1.proofs.Accepted.{Sound}
 use Rattle.demand1.proofs.Lists.{each-append}
 use Rattle.demand1.proofs.Pages.{layout, header-whole}
 use Rattle.demand1.proofs.Walks.{Room, header-low}
 
-module _ {g : Geometry} {n : ℕ} (S : Sound g n) where
+module _ {g : Geometry} {n : ℕ} (S : Laid g n) where
   pub start-lies : (p : ℕ) → p < g .pages → Lies g (setStart g p)
   unfolding setStart
   start-lies p h =

@@ -17,7 +17,8 @@ use Rattle.paper.specs.Scan.{Head, present}
 use Rattle.paper.specs.Refusals.{check, row}
 use Rattle.chip.specs.Within.{Within, Checks}
 use Rattle.chip.proofs.Geometry.{data-in}
-use Rattle.chip.proofs.Rounding.{round-up-ge}
+use Rattle.laws.proofs.Parts.{part-part, length-part}
+use Rattle.laws.proofs.Rounding.{round-up-ge}
 use Rattle.item.specs.declared.ItemHeader.{ItemHeader}
 use Rattle.item.specs.declared.MaybeHeader.{MaybeHeader}
 use Rattle.item.specs.declared.MaybeHeader.the-variants as header
@@ -26,7 +27,6 @@ use Rattle.item.specs.Places.{Inside, Room}
 use Rattle.item.specs.Reading.{headAt}
 use Rattle.item.proofs.Live.{live-yes, live-no}
 use Rattle.item.proofs.Looking.{item-in}
-use Rattle.item.proofs.Parts.{part-part, length-part}
 use Rattle.dock.specs.Codes.{code, rowCode}
 use Rattle.dock.specs.Sights.{outside, onPage, kind, seen, sight}
 
@@ -77,7 +77,7 @@ module _ (g : Geometry) (im : List ℕ) (a e : ℕ) {k : MaybeHeader} (is : Head
     fits =
         let o = i .order in
         let m = i .ends in
-        omega (arith, length-part im a (e - a) (omega arith), item-in g (part a (e - a) im) (x .crc) (x .length) _ (sym (told (header.Accepted x) q)))
+        omega (arith, length-part a (e - a) im (omega arith), item-in g (part a (e - a) im) (x .crc) (x .length) _ (sym (told (header.Accepted x) q)))
 
     pub item-room : e < 4294967296 → Room g (length im) a (x .length)
     item-room t =
@@ -91,7 +91,7 @@ module _ (g : Geometry) (im : List ℕ) (a e : ℕ) {k : MaybeHeader} (is : Head
         let o = i .good in
         let f = fits in
         let y : part (headerSize g) (x .length) (part a (e - a) im) ≡ part (a + headerSize g) (x .length) im =
-        part-part im a (e - a) (headerSize g) (x .length) (omega (arith, round-up-ge (g .word) (x .length) (o .low))) in
+        part-part a (e - a) (headerSize g) (x .length) im (omega (arith, round-up-ge (g .word) (x .length) (o .low))) in
         ap (λ (v : ℕ). v + 8 * x .length) u ∙ ap (λ (b : List ℕ). seen a (item (x .crc) (x .length) b)) (sym y) ∙ ap (seen a) (told (header.Accepted x) q)
 
 -- ---- an accepted header

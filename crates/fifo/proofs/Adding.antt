@@ -15,11 +15,11 @@ use Rattle.paper.specs.Chip.{roundUp, headerSize, put, part, Event, imageAfter,
 use Rattle.paper.specs.Scan.{Head, Walk, pageWalk, payloads}
 use Rattle.paper.specs.Calls.{itemAt}
 use Rattle.paper.specs.Waiting.{waiting}
-use Rattle.fifo.proofs.Good.{Word, four, wide, word-pos}
-use Rattle.fifo.proofs.Sides.{Side, below, above, side}
+use Rattle.laws.proofs.Accepted.{Word, four, wide}
+use Rattle.laws.proofs.Events.{before-all}
+use Rattle.laws.proofs.Puts.{put-nil}
+use Rattle.laws.proofs.Sides.{Side, below, above, side}
 use Rattle.fifo.proofs.Sizes.{wide-header, four-header}
-use Rattle.fifo.proofs.Puts.{put-nil}
-use Rattle.fifo.proofs.Events.{before-all}
 use Rattle.fifo.proofs.Changed.{walk-other}
 use Rattle.fifo.proofs.Invariant.{Inv}
 use Rattle.fifo.proofs.Site.{Site, current, scanned, spotOf, Regrown, grow-inv, grow-list, grow-walk}
@@ -60,7 +60,7 @@ new-heads {g} {im} {S} {jm} {hs = hs} R p hp h m = by (eqb p (current S)) refl
 
 module _ {g : Geometry} {im : List ℕ} {S : Site g im} {slip : List ℕ} (F : Writable S slip) where
   pos : 0 < g .word
-  pos = word-pos (S .inv .good)
+  pos = S .inv .good .low
 
   -- no word
   no-word : Added S slip 0 im
@@ -133,7 +133,7 @@ module _ {g : Geometry} {im : List ℕ} {S : Site g im} {slip : List ℕ} (F : W
           heads = λ p hp x m. none-new (new-heads R p hp x m);
         }
 
-  some-words : (j : ℕ) → j ≤ itemWords g slip → Side 0 j → Side (j * g .word) (headerSize g) → Word g → Clear S (withWords S slip j)
+  some-words : (j : ℕ) → j ≤ itemWords g slip → Side 0 j → Side (j * g .word) (headerSize g) → Word (g .word) → Clear S (withWords S slip j)
       → (headerSize g ≤ j * g .word → j < itemWords g slip → PassesAsSlip S slip (withWords S slip j)) → Added S slip j (withWords S slip j)
   unfolding written
   some-words j hj (above l) s w U P =

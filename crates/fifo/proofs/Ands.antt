@@ -1,4 +1,4 @@
--- Bytes ANDed onto others: onto FF, with zeros, with themselves. Assumes nothing.
+-- Bytes ANDed onto FF and with themselves. Assumes nothing.
 use mathlib.Core.Bool.{true}
 use mathlib.Core.List.{List, [], _∷_, _++_}
 use mathlib.Core.Path.{_≡_, refl, ap, ap₂, _∙_, subst}
@@ -6,32 +6,14 @@ use Prim.Native.Nat.{ℕ, zero, suc, _+_, _≤_}
 use native.Mathlib.Nat.{mod-eq-of-lt}
 use native.Mathlib.Omega.{arith}
 use borrow.Author.Tests.{eqb-true}
-use lib.Bits.{bitAnd, and-mask, and-comm, and-zero-r, and-self}
+use lib.Bits.{bitAnd, and-mask, and-comm, and-self}
 use lib.Dec.{eqb}
-use lib.ListN.{length, take, drop, replicate}
+use lib.ListN.{length, take, replicate}
 use Rattle.paper.specs.Chip.{ands}
 use Rattle.paper.specs.Slip.{blank}
 use Rattle.paper.specs.Fifo.{Bytes}
+use Rattle.laws.proofs.Ands.{ands-nil}
 use Rattle.fifo.proofs.Blank.{and-true}
-
-pub ands-length : (xs bs : List ℕ) → length bs ≤ length xs → length (ands xs bs) ≡ length bs
-unfolding ands
-ands-length [] [] h = refl
-ands-length [] (b ∷ bs) h = let z : ⊥ = omega arith in absurd z
-ands-length (x ∷ xs) [] h = refl
-ands-length (x ∷ xs) (b ∷ bs) h = ap suc (ands-length xs bs (omega arith))
-
-pub ands-nil : (xs : List ℕ) → ands xs [] ≡ []
-unfolding ands
-ands-nil [] = refl
-ands-nil (x ∷ xs) = refl
-
-pub ands-append : (xs bs cs : List ℕ) → length bs ≤ length xs → ands xs (bs ++ cs) ≡ ands xs bs ++ ands (drop (length bs) xs) cs
-unfolding ands
-ands-append [] [] cs h = refl
-ands-append (x ∷ xs) [] cs h = refl
-ands-append [] (b ∷ bs) cs h = let z : ⊥ = omega arith in absurd z
-ands-append (x ∷ xs) (b ∷ bs) cs h = ap (λ (l : List ℕ). bitAnd x b ∷ l) (ands-append xs bs cs (omega arith))
 
 pub ands-blank : (xs bs : List ℕ) → blank (take (length bs) xs) ≡ true → length bs ≤ length xs → Bytes bs → ands xs bs ≡ bs
 unfolding ands blank
@@ -42,16 +24,6 @@ ands-blank (x ∷ xs) (b ∷ bs) e h k =
     let p = and-true (eqb x 255) (blank (take (length bs) xs)) e in
     let q : bitAnd x b ≡ b = ap (λ (y : ℕ). bitAnd y b) (eqb-true x 255 (p .0)) ∙ and-comm 255 b ∙ and-mask b 8 ∙ mod-eq-of-lt (k .0) in
     ap₂ _∷_ q (ands-blank xs bs (p .1) (omega arith) (k .1))
-
-pub ands-zeros : (xs : List ℕ) (n : ℕ) → n ≤ length xs → ands xs (replicate n 0) ≡ replicate n 0
-unfolding ands
-ands-zeros xs zero h = by xs
-  where
-    by : (l : List ℕ) → ands l [] ≡ []
-    by [] = refl
-    by (x ∷ l) = refl
-ands-zeros [] (suc n) h = let z : ⊥ = omega arith in absurd z
-ands-zeros (x ∷ xs) (suc n) h = ap₂ _∷_ (and-zero-r x) (ands-zeros xs n (omega arith))
 
 -- bytes ANDed with themselves, and then with FF
 pub ands-kept : (y : List ℕ) (i r k : ℕ) → k ≤ i + r → i + r ≤ length y → Bytes (take (i + r) y)

@@ -8,7 +8,7 @@ use borrow.Author.Tests.{eqb-true}
 use lib.Dec.{eqb}
 use lib.ListN.{length, take, drop, replicate}
 use Rattle.paper.specs.Slip.{blank}
-use Rattle.fifo.proofs.Lists.{take-append}
+use Rattle.laws.proofs.Parts.{take-append}
 
 pub and-true : (a b : Bool) → (a && b) ≡ true → (a ≡ true) × (b ≡ true)
 and-true true true e = (refl, refl)

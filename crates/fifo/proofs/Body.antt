@@ -14,11 +14,11 @@ use Rattle.paper.specs.declared.Geometry.{Geometry}
 use Rattle.paper.specs.Checksum.{dataCrc}
 use Rattle.paper.specs.Chip.{roundUp, headerSize}
 use Rattle.paper.specs.Scan.{payloads, present, live}
+use Rattle.laws.proofs.Parts.{take-append}
+use Rattle.laws.proofs.Rounding.{round-up-ge}
+use Rattle.laws.proofs.Sides.{Side, below, above, side}
 use Rattle.checksum.proofs.Adjusted.{data-low}
-use Rattle.fifo.proofs.Good.{word-pos}
-use Rattle.fifo.proofs.Sides.{Side, below, above, side}
-use Rattle.fifo.proofs.Sizes.{itemSize, roundUp-ge}
-use Rattle.fifo.proofs.Lists.{take-append}
+use Rattle.fifo.proofs.Sizes.{itemSize}
 use Rattle.fifo.proofs.Blank.{blank-is, blank-drop}
 use Rattle.fifo.proofs.Site.{Site, scanned, rest-blank}
 use Rattle.fifo.proofs.Item.{paddedSlip, itemWords, length-padded, item-size, within-item}
@@ -51,7 +51,7 @@ begun-all s m h = let z : length s - m ≡ 0 = omega arith in rw (take-all m s h
 module _ {g : Geometry} {im : List ℕ} {S : Site g im} {slip : List ℕ} (F : Writable S slip) (j : ℕ) (hj : j ≤ itemWords g slip)
     (h : headerSize g ≤ j * g .word) where
   pos : 0 < g .word
-  pos = word-pos (S .inv .good)
+  pos = S .inv .good .low
 
   abbrev m : ℕ
   m = paid F j hj h
@@ -73,7 +73,7 @@ module _ {g : Geometry} {im : List ℕ} {S : Site g im} {slip : List ℕ} (F : W
       by (below l) =
           let t : take m (slip ++ Z) ≡ take m slip = take-append-le m slip Z (omega arith) in
           let lt : length (take m slip) ≡ m = length-take-le m slip (omega arith) in
-          let room : n - m ≤ length D = omega (arith, length-drop (headerSize g + m) (scanned S .rest), F .room, roundUp-ge (g .word) n pos) in
+          let room : n - m ≤ length D = omega (arith, length-drop (headerSize g + m) (scanned S .rest), F .room, round-up-ge (g .word) n pos) in
           ap (λ (x : List ℕ). take n (x ++ D)) t ∙ take-append n (take m slip) D
           ∙ ap₂ (λ (x y : List ℕ). x ++ y) (take-all n (take m slip) (omega arith))
           (ap (λ (x : ℕ). take (n - x) D) lt ∙ blank-is (n - m) D (blank-drop (headerSize g + m) (scanned S .rest) (rest-blank S)) room)
@@ -85,7 +85,7 @@ module _ {g : Geometry} {im : List ℕ} {S : Site g im} {slip : List ℕ} (F : W
   pub whole-body : j ≡ itemWords g slip → newHead F j hj h .body ≡ slip
   whole-body q =
       let jq : j * g .word ≡ itemSize g (length slip) = ap (λ (y : ℕ). y * g .word) q ∙ sym (item-size g pos slip) in
-      body-is ∙ begun-all slip m (omega (arith, paid-is F j hj h, roundUp-ge (g .word) (length slip) pos))
+      body-is ∙ begun-all slip m (omega (arith, paid-is F j hj h, round-up-ge (g .word) (length slip) pos))
 
   -- the item is present exactly where its payload passes
   new-present : present (newHead F j hj h) ≡ eqb (dataCrc (newHead F j hj h .body)) (dataCrc slip)

@@ -6,6 +6,7 @@ use native.Mathlib.Nat.{mod-lt, div-lt-iff-lt-mul, pow-suc}
 use native.Mathlib.Omega.{arith}
 use lib.Dec.{lit<}
 use lib.ListN.{length, take, replicate, drop}
+use Rattle.paper.specs.Chip.{put}
 use Rattle.paper.specs.Slip.{bytesOf, numberOf}
 use Rattle.paper.specs.Fifo.{Bytes}
 
@@ -64,3 +65,9 @@ bytes-left (x ∷ a) b h = (h .0, bytes-left a b (h .1))
 pub bytes-right : (a b : List ℕ) → Bytes (a ++ b) → Bytes b
 bytes-right [] b h = h
 bytes-right (x ∷ a) b h = bytes-right a b (h .1)
+
+pub put-bytes : (i : ℕ) (x l : List ℕ) → Bytes x → Bytes l → Bytes (put i x l)
+unfolding put
+put-bytes i x l b c =
+    let r : List ℕ = drop (i + length x) l in
+    bytes-append (take i l) (x ++ r) (bytes-take i l c) (bytes-append x r b (bytes-drop (i + length x) l c))

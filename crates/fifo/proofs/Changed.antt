@@ -11,12 +11,12 @@ use Rattle.paper.specs.declared.Geometry.{Geometry}
 use Rattle.paper.specs.Chip.{pageStart, dataStart, dataEnd, dataSize, pageData, put, ands, erase, imageBy}
 use Rattle.paper.specs.Scan.{walk, pageWalk}
 use Rattle.paper.specs.Pages.{state, startMark, endMark, setStart, setEnd}
-use Rattle.fifo.proofs.Good.{Good, word-pos}
+use Rattle.laws.proofs.Accepted.{Laid}
+use Rattle.laws.proofs.Ands.{ands-zeros}
+use Rattle.laws.proofs.Puts.{length-put}
 use Rattle.fifo.proofs.Blank.{blank-replicate}
-use Rattle.fifo.proofs.Puts.{length-put}
-use Rattle.fifo.proofs.Ands.{ands-zeros}
 use Rattle.fifo.proofs.Courses.{blank-walk}
-use Rattle.fifo.proofs.Views.{View, view, stateIn, erasedView, view-state, view-walk, elsewhere, put-first, put-last, put-all, page-in, page-split, inner-low, inner-high}
+use Rattle.fifo.proofs.Views.{View, view, stateIn, erasedView, view-state, view-walk, elsewhere, put-first, put-last, put-all, page-inside, page-split, inner-low, inner-high}
 
 -- jm is im but for page p, which is v
 pub record Changed (g : Geometry) (im jm : List ℕ) (p : ℕ) (v : View) : Type 0 where
@@ -25,8 +25,8 @@ pub record Changed (g : Geometry) (im jm : List ℕ) (p : ℕ) (v : View) : Type
   pub this : view g jm p ≡ v
 
 module _ {g : Geometry} {im jm : List ℕ} {p : ℕ} {v : View} (C : Changed g im jm p v) where
-  pub still-good : Good g (length im) → Good g (length jm)
-  still-good G = subst (λ (k : ℕ). Good g k) (sym (C .long)) G
+  pub still-good : Laid g (length im) → Laid g (length jm)
+  still-good G = subst (λ (k : ℕ). Laid g k) (sym (C .long)) G
 
   -- what holds of every page but p before, and of v, holds of every page after
   pub every-page : (P : ℕ → View → Type 0) → ((q : ℕ) → q < g .pages → (q ≡ p → ⊥) → P q (view g im q)) → P p v → (q : ℕ) → q < g .pages
@@ -66,11 +66,11 @@ module _ {g : Geometry} {im jm : List ℕ} {p : ℕ} {v : View} (C : Changed g i
 abbrev pub zeroMark : Geometry → List ℕ
 zeroMark g = replicate (g .word) 0
 
-module _ {g : Geometry} (im : List ℕ) (G : Good g (length im)) (p : ℕ) (hp : p < g .pages) where
+module _ {g : Geometry} (im : List ℕ) (G : Laid g (length im)) (p : ℕ) (hp : p < g .pages) where
   -- bytes put into page p, by the page that they make of it
   put-changed : (a : ℕ) (x : List ℕ) (v : View) → pageStart g p ≤ a → a + length x ≤ pageStart g p + g .page → view g (put a x im) p ≡ v
       → Changed g im (put a x im) p v
-  put-changed a x v low high e = record { long = length-put a x im (omega (arith, page-in im G p hp)); others = elsewhere im G p a x hp low high; this = e }
+  put-changed a x v low high e = record { long = length-put a x im (omega (arith, page-inside im G p hp)); others = elsewhere im G p a x hp low high; this = e }
 
   pub inner-changed : (i : ℕ) (x : List ℕ) (v : View) → i + length x ≤ dataSize g → view g (put (dataStart g p + i) x im) p ≡ v
       → Changed g im (put (dataStart g p + i) x im) p v
@@ -81,7 +81,7 @@ module _ {g : Geometry} (im : List ℕ) (G : Good g (length im)) (p : ℕ) (hp :
 
   -- a word of the page, ANDed with zeros
   zeroed : (a : ℕ) → pageStart g p ≤ a → a + g .word ≤ pageStart g p + g .page → put a (ands (drop a im) (zeroMark g)) im ≡ put a (zeroMark g) im
-  zeroed a low high = rw (ands-zeros (drop a im) (g .word) (omega (arith, page-in im G p hp, length-drop a im)))
+  zeroed a low high = rw (ands-zeros (drop a im) (g .word) (omega (arith, page-inside im G p hp, length-drop a im)))
 
   pub start-changed : Changed g im (imageBy g (setStart g p) im) p (record { first = zeroMark g; inner = pageData g im p; last = endMark g im p })
   unfolding imageBy setStart
@@ -111,4 +111,4 @@ module _ {g : Geometry} (im : List ℕ) (G : Good g (length im)) (p : ℕ) (hp :
 
   -- an erased page has no head and refuses nothing
   pub erased-walk : pageWalk g (imageBy g (erase p) im) p ≡ record { heads = []; refused = []; rest = replicate (dataSize g) 255 }
-  erased-walk = walk-this erase-changed ∙ blank-walk g (word-pos G) (dataStart g p) (replicate (dataSize g) 255) (blank-replicate (dataSize g))
+  erased-walk = walk-this erase-changed ∙ blank-walk g (G .low) (dataStart g p) (replicate (dataSize g) 255) (blank-replicate (dataSize g))

@@ -11,7 +11,8 @@ use Rattle.paper.specs.declared.Geometry.{Geometry}
 use Rattle.paper.specs.Chip.{roundUp, headerSize, part, put, Event, erase, copy, imageBy, imageAfter, bufferBy, bufferAfter, Plan, plan, bind}
 use Rattle.paper.specs.Scan.{Head, payloads, present, live}
 use Rattle.paper.specs.Calls.{Met, passed, long, met, readHeads}
-use Rattle.fifo.proofs.Events.{Avoids, after-append, buffer-append}
+use Rattle.laws.proofs.Events.{image-append, buffer-append}
+use Rattle.fifo.proofs.Events.{Avoids}
 use Rattle.fifo.proofs.Payloads.{not-present}
 use Rattle.fifo.proofs.Steady.{Keeps, Steady, rests, goes, copied}
 
@@ -43,7 +44,7 @@ copies-avoid q (aCopy c) = copies-avoid q c
 pub image-on : (g : Geometry) (es : List Event) (p : ℕ) (fs : List Event) (im : List ℕ) → imageAfter g es im ≡ im
     → imageAfter g (es ++ (erase p ∷ fs)) im ≡ imageAfter g fs (imageBy g (erase p) im)
 unfolding imageAfter
-image-on g es p fs im e = after-append g es (erase p ∷ fs) im ∙ ap (λ (x : List ℕ). imageAfter g fs (imageBy g (erase p) x)) e
+image-on g es p fs im e = image-append g es (erase p ∷ fs) im ∙ ap (λ (x : List ℕ). imageAfter g fs (imageBy g (erase p) x)) e
 
 pub buffer-on : (g : Geometry) (es : List Event) (p : ℕ) (fs : List Event) (im buf : List ℕ) → imageAfter g es im ≡ im
     → bufferAfter g (es ++ (erase p ∷ fs)) im buf ≡ bufferAfter g fs (imageBy g (erase p) im) (bufferAfter g es im buf)

@@ -9,10 +9,10 @@ use Rattle.paper.specs.Chip.{Event, store, erase, copy}
 use Rattle.paper.specs.Scan.{Head, pageWalk}
 use Rattle.paper.specs.Pages.{allPages}
 use Rattle.paper.specs.Fifo.{Call, pushes, peeks, pops, fits, spaces, erasesAll, Power, whole, cutAfter, eventsOf, imageNext, Ghost, ghostNext, headerAt, kept, outside, refusals, Begun, Fair, Reached, fresh, further, Demand3}
+use Rattle.laws.proofs.Accepted.{accepted-from}
+use Rattle.laws.proofs.Ring.{pages-only}
 use Rattle.fifo.specs.Claims.{LiteralEnough}
-use Rattle.fifo.proofs.Good.{accepted-good}
 use Rattle.fifo.proofs.Views.{view, erasedView, erased-view}
-use Rattle.fifo.proofs.Ring.{pages-only}
 use Rattle.fifo.proofs.Invariant.{Inv, quiet-walk}
 use Rattle.fifo.proofs.ErasedRange.{fresh-inv, fresh-list, fresh-heads}
 use Rattle.fifo.proofs.Ghosts.{acceptedAt, kept-in}
@@ -80,7 +80,7 @@ hold-on {g} {im} {gh} H c w F =
 
 pub held : {g : Geometry} {im : List ℕ} {gh : Ghost} → Reached g im gh → Held g im gh
 held {g} (fresh {im = im} s a e) =
-    let G = accepted-good (length im) s g a in
+    let G = accepted-from (length im) s g a .laid in
     let E : (p : ℕ) → p < g .pages → view g im p ≡ erasedView g = λ p h. erased-view im G p (e p h) in
     record {
       old = 0;
@@ -93,7 +93,7 @@ held (further c w r F) = hold-on (held r) c w F
 
 pub demand3 : Demand3
 demand3 = record {
-  starts = λ g im s a e. let G = accepted-good (length im) s g a in fresh-list im G (λ p h. erased-view im G p (e p h));
+  starts = λ g im s a e. let G = accepted-from (length im) s g a .laid in fresh-list im G (λ p h. erased-view im G p (e p h));
   behaves = λ g im gh r c w F. step-of (held r .inv) gh c w F .claim;
   begun = λ g im gh r. held r .begun;
   noFalse = λ g im gh r wide.

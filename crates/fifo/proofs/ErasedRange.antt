@@ -12,18 +12,18 @@ use Rattle.paper.specs.Scan.{Head, Walk, pageWalk}
 use Rattle.paper.specs.Pages.{state}
 use Rattle.paper.specs.Calls.{erases}
 use Rattle.paper.specs.Waiting.{waiting}
-use Rattle.fifo.proofs.Good.{Good, word-pos}
+use Rattle.laws.proofs.Accepted.{Laid}
+use Rattle.laws.proofs.Marks.{ones-unset}
+use Rattle.laws.proofs.Ring.{turn, turn-lt}
 use Rattle.fifo.proofs.Blank.{blank-replicate}
 use Rattle.fifo.proofs.Courses.{blank-walk}
 use Rattle.fifo.proofs.Views.{view, erasedView, view-state, view-walk}
-use Rattle.fifo.proofs.Ring.{turn, turn-lt}
 use Rattle.fifo.proofs.RingShape.{openAll}
 use Rattle.fifo.proofs.Listed.{run}
-use Rattle.fifo.proofs.Marks.{ones-unset}
 use Rattle.fifo.proofs.Changed.{Changed, still-good, every-page, erase-changed}
 use Rattle.fifo.proofs.Invariant.{PageOk, Inv, erased-ok, listed, open-empty}
 
-module _ {g : Geometry} (im : List ℕ) (G : Good g (length im)) (E : (p : ℕ) → p < g .pages → view g im p ≡ erasedView g) where
+module _ {g : Geometry} (im : List ℕ) (G : Laid g (length im)) (E : (p : ℕ) → p < g .pages → view g im p ≡ erasedView g) where
   open-page : (i : ℕ) → i < g .pages → state g im (turn g 0 i) ≡ Open
   open-page i h = view-state g im (turn g 0 i) (E (turn g 0 i) (turn-lt g 0 i (G .some) (omega arith))) ∙ rw (ones-unset (g .word))
 
@@ -37,7 +37,7 @@ module _ {g : Geometry} (im : List ℕ) (G : Good g (length im)) (E : (p : ℕ) 
       now = openAll (open-page 0 (G .some)) refl refl;
       opens = λ i h k. open-page i k;
     };
-    pages-ok = λ p h. subst (PageOk g p) (sym (E p h)) (erased-ok g (word-pos G) p);
+    pages-ok = λ p h. subst (PageOk g p) (sym (E p h)) (erased-ok g (G .low) p);
   }
 
   pub fresh-list : waiting g im ≡ []
@@ -48,7 +48,7 @@ module _ {g : Geometry} (im : List ℕ) (G : Good g (length im)) (E : (p : ℕ) 
   -- nothing is accepted
   pub fresh-heads : (p : ℕ) → p < g .pages → (h : Head) → List·Memᴰ h (pageWalk g im p .heads) → ⊥
   fresh-heads p hp h m =
-      let e = view-walk g im p (E p hp) ∙ blank-walk g (word-pos G) (dataStart g p) (replicate (dataSize g) 255) (blank-replicate (dataSize g)) in
+      let e = view-walk g im p (E p hp) ∙ blank-walk g (G .low) (dataStart g p) (replicate (dataSize g) 255) (blank-replicate (dataSize g)) in
       List·Memᴰ·not-nil (subst (λ (w : Walk). List·Memᴰ h (w .heads)) e m)
 
 -- ---- after the erases of some pages
@@ -58,7 +58,7 @@ pub record Wiped (g : Geometry) (im jm ps : List ℕ) : Type 0 where
   pub these : (q : ℕ) → q < g .pages → List·Memᴰ q ps → view g jm q ≡ erasedView g
   pub still : (q : ℕ) → q < g .pages → view g im q ≡ erasedView g → view g jm q ≡ erasedView g
 
-pub erases-wipe : (g : Geometry) (ps im : List ℕ) → Good g (length im) → ((q : ℕ) → List·Memᴰ q ps → q < g .pages)
+pub erases-wipe : (g : Geometry) (ps im : List ℕ) → Laid g (length im) → ((q : ℕ) → List·Memᴰ q ps → q < g .pages)
     → Wiped g im (imageAfter g (erases g ps) im) ps
 unfolding imageAfter erases erasePage
 erases-wipe g [] im G f = record { long = refl; these = λ q h m. absurd (List·Memᴰ·not-nil m); still = λ q h e. e }

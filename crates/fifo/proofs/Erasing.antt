@@ -8,13 +8,12 @@ use Rattle.paper.specs.declared.PageState.the-variants.{Open}
 use Rattle.paper.specs.Chip.{erase, imageBy}
 use Rattle.paper.specs.Pages.{state}
 use Rattle.paper.specs.Waiting.{waiting}
-use Rattle.fifo.proofs.Good.{word-pos}
-use Rattle.fifo.proofs.Sides.{Side, below, above, side}
+use Rattle.laws.proofs.Marks.{ones-unset}
+use Rattle.laws.proofs.Ring.{turn, turn-suc, turn-apart, turn-zero, turn-full}
+use Rattle.laws.proofs.Sides.{Side, below, above, side}
 use Rattle.fifo.proofs.Views.{erasedView}
-use Rattle.fifo.proofs.Ring.{turn, turn-suc, turn-apart, turn-zero, turn-full}
 use Rattle.fifo.proofs.RingShape.{Now, partly, openAfter, openAll, RingShape}
 use Rattle.fifo.proofs.Listed.{presentIn, run-suc, run}
-use Rattle.fifo.proofs.Marks.{ones-unset}
 use Rattle.fifo.proofs.Changed.{Changed, still-good, state-other, walk-other, state-this, erase-changed}
 use Rattle.fifo.proofs.Invariant.{Inv, turn-in, erased-ok, open-empty, listed, runs-same, pages-still-ok}
 
@@ -60,7 +59,7 @@ module _ {g : Geometry} {im : List ℕ} {o b : ℕ} (I : Inv g im o b) where
             now = rw (turn-suc g o (b - 1) (S .old-in) (omega arith), z, same-state b hb r) (one-closer (side 1 b) (S .now));
             opens = λ i h k. rw (turn-suc g o i (S .old-in) (omega arith)) (opens i h k (side (suc i) (g .pages)));
           };
-          pages-ok = pages-still-ok I C (erased-ok g (word-pos (I .good)) o);
+          pages-ok = pages-still-ok I C (erased-ok g (I .good .low) o);
         }
 
     pub erase-list : waiting g (imageBy g (erase o) im) ≡ waiting g im
@@ -95,7 +94,7 @@ module _ {g : Geometry} {im : List ℕ} {o b : ℕ} (I : Inv g im o b) where
             now = openAll sole-open (omega arith) refl;
             opens = λ i k l. let z : ⊥ = omega arith in absurd z;
           };
-          pages-ok = pages-still-ok I C (erased-ok g (word-pos (I .good)) o);
+          pages-ok = pages-still-ok I C (erased-ok g (I .good .low) o);
         }
 
     pub sole-list : waiting g (imageBy g (erase o) im) ≡ waiting g im

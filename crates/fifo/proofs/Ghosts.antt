@@ -13,15 +13,16 @@ use Rattle.paper.specs.Chip.{Event, store, erase, copy, imageAfter, pageStart, 
 use Rattle.paper.specs.Scan.{Head, Walk, pageWalk}
 use Rattle.paper.specs.Pages.{allPages}
 use Rattle.paper.specs.Fifo.{Ghost, kept, outside, refusals, Accepts}
-use Rattle.fifo.proofs.Good.{Good, Word, four, wide, word-pos}
-use Rattle.fifo.proofs.Sides.{Side, below, above, side}
+use Rattle.laws.proofs.Accepted.{Laid, Word, four, wide}
+use Rattle.laws.proofs.Places.{page-next, page-below}
+use Rattle.laws.proofs.Ring.{all-pages}
+use Rattle.laws.proofs.Sides.{Side, below, above, side}
 use Rattle.fifo.proofs.Sizes.{itemSize, header-word, header-ge}
 use Rattle.fifo.proofs.Events.{Avoids, avoid-append}
 use Rattle.fifo.proofs.Looks.{look-bad, look-item}
 use Rattle.fifo.proofs.Courses.{Course, here, past, over, course-of}
 use Rattle.fifo.proofs.Replaced.{NoneAccepted}
-use Rattle.fifo.proofs.Views.{page-next, page-below, inner-low, inner-high, inner-length}
-use Rattle.fifo.proofs.Ring.{all-pages}
+use Rattle.fifo.proofs.Views.{inner-low, inner-high, inner-length}
 use Rattle.fifo.proofs.Invariant.{Inv, quiet-walk}
 
 -- ---- what a scan comes to lies in its page
@@ -75,11 +76,11 @@ course-range g pos {a} {d} {rs = rs} (over {c = c} {n = n} {body = body} {hs = h
     by (inl q) f = later (f (inl q))
     by (inr q) f = at f (q .0) (q .2) (List·Memᴰ·cases-cons (q .1))
 
-page-range : {g : Geometry} (im : List ℕ) → Good g (length im) → (p : ℕ) → p < g .pages → (x : ℕ) → Comes x (pageWalk g im p)
+page-range : {g : Geometry} (im : List ℕ) → Laid g (length im) → (p : ℕ) → p < g .pages → (x : ℕ) → Comes x (pageWalk g im p)
     → Within (pageStart g p) (g .page) x
 unfolding pageWalk
 page-range {g} im G p hp x c =
-    let pos = word-pos G in
+    let pos = G .low in
     let l = inner-length im G p hp in
     let r = course-range g pos (course-of g pos (dataStart g p) (pageData g im p)) x (met c) in
     (omega (arith, r .0, inner-low g p 0), omega (arith, r .1, inner-high G p 0 (dataSize g) (omega arith)))
@@ -121,7 +122,7 @@ kept-range g p x r (erase q ∷ es) l a m = kept-range g p x r es (outside g q l
     by (above h) (above k) u v = a .0 (omega arith)
 
 -- an address that the scan of page p comes to is kept while p is not erased
-pub kept-in : {g : Geometry} (im : List ℕ) → Good g (length im) → (p : ℕ) → p < g .pages → (x : ℕ) → Comes x (pageWalk g im p)
+pub kept-in : {g : Geometry} (im : List ℕ) → Laid g (length im) → (p : ℕ) → p < g .pages → (x : ℕ) → Comes x (pageWalk g im p)
     → (es : List Event) (l : List ℕ) → Avoids p es → List·Memᴰ x l → List·Memᴰ x (kept g es l)
 kept-in {g} im G p hp x c = kept-range g p x (page-range im G p hp x c)
 
@@ -145,7 +146,7 @@ abbrev pub StayRefused : Geometry → List ℕ → Ghost → List Event → Type
 StayRefused g im gh es = g .word ≡ 4 → Accepts g (imageAfter g es im) (λ a. List·Memᴰ a (kept g es (refusals g im (allPages g) ++ gh .refusedBefore)) → ⊥)
 
 -- then page p, as it is after es, has refused nothing that is accepted after es and fs
-pub unmet : {g : Geometry} (im : List ℕ) → Good g (length im) → (gh : Ghost) (es : List Event) {o b : ℕ} → Inv g (imageAfter g es im) o b
+pub unmet : {g : Geometry} (im : List ℕ) → Laid g (length im) → (gh : Ghost) (es : List Event) {o b : ℕ} → Inv g (imageAfter g es im) o b
     → (fs : List Event) (p : ℕ) → p < g .pages
     → FromBefore g im p es → Avoids p fs → StayRefused g im gh (es ++ fs)
     → NoneAccepted (pageWalk g (imageAfter g es im) p .refused) (pageWalk g (imageAfter g (es ++ fs) im) p .heads)
@@ -154,7 +155,7 @@ unmet {g} im G gh es I fs p hp O A F h m k = by (G .word) O
     nil : pageWalk g (imageAfter g es im) p .refused ≡ [] → ⊥
     nil q = List·Memᴰ·not-nil (subst (λ (l : List ℕ). List·Memᴰ (h .place) l) q k)
 
-    by : Word g → FromBefore g im p es → ⊥
+    by : Word (g .word) → FromBefore g im p es → ⊥
     by (wide q) O = nil (quiet-walk I p hp q)
     by (four q) (inl r) = nil r
     by (four q) (inr r) =

@@ -13,12 +13,12 @@ use Rattle.paper.specs.Scan.{Walk, walk, pageWalk, payloads}
 use Rattle.paper.specs.Pages.{state}
 use Rattle.paper.specs.Waiting.{waiting}
 use Rattle.paper.specs.Fifo.{Bytes}
-use Rattle.fifo.proofs.Good.{Good, word-pos}
+use Rattle.laws.proofs.Accepted.{Laid}
+use Rattle.laws.proofs.Ring.{turn, turn-lt, turn-once}
 use Rattle.fifo.proofs.Blank.{blank-replicate}
 use Rattle.fifo.proofs.Bytes.{bytes-replicate}
 use Rattle.fifo.proofs.Courses.{blank-walk}
 use Rattle.fifo.proofs.Views.{View, view, stateIn, erasedView, view-state}
-use Rattle.fifo.proofs.Ring.{turn, turn-lt, turn-inj}
 use Rattle.fifo.proofs.RingShape.{RingShape, cur-in}
 use Rattle.fifo.proofs.Listed.{waiting-is, presentIn, run, run-same}
 use Rattle.fifo.proofs.Changed.{Changed, every-page}
@@ -32,7 +32,7 @@ pub record PageOk (g : Geometry) (p : ℕ) (v : View) : Type 0 where
 
 -- the oldest page is o, and the b pages from there on are Closed
 pub record Inv (g : Geometry) (im : List ℕ) (o b : ℕ) : Type 0 where
-  pub good : Good g (length im)
+  pub good : Laid g (length im)
   pub shape : RingShape g im o b
   pub pages-ok : (p : ℕ) → p < g .pages → PageOk g p (view g im p)
 
@@ -55,12 +55,12 @@ module _ {g : Geometry} {im : List ℕ} {o b : ℕ} (I : Inv g im o b) where
   turn-in i h = turn-lt g o i (I .shape .old-in) h
 
   pub not-current : (i : ℕ) → i < g .pages → (i ≡ b → ⊥) → turn g o i ≡ turn g o b → ⊥
-  not-current i h ne e = ne (turn-inj g o i b (I .shape .old-in) h (I .shape .run-in) e)
+  not-current i h ne e = ne (turn-once g o i b (I .shape .old-in) h (I .shape .run-in) e)
 
   -- an Open page, to the scan
   pub open-walk : (p : ℕ) → p < g .pages → state g im p ≡ Open → pageWalk g im p ≡ record { heads = []; refused = []; rest = pageData g im p }
   unfolding pageWalk
-  open-walk p h e = blank-walk g (word-pos (I .good)) (dataStart g p) (pageData g im p) (I .pages-ok p h .untouched (sym (view-state g im p refl) ∙ e))
+  open-walk p h e = blank-walk g (I .good .low) (dataStart g p) (pageData g im p) (I .pages-ok p h .untouched (sym (view-state g im p refl) ∙ e))
 
   pub open-empty : (p : ℕ) → p < g .pages → state g im p ≡ Open → presentIn g im p ≡ []
   unfolding payloads

@@ -13,8 +13,9 @@ use Rattle.paper.specs.Chip.{roundUp, wordsFor, headerSize, Event, storeCount, 
 use Rattle.paper.specs.Slip.{encode}
 use Rattle.paper.specs.Calls.{itemAt}
 use Rattle.paper.specs.Fifo.{Bytes}
-use Rattle.fifo.proofs.Sides.{Side, below, above, side}
-use Rattle.fifo.proofs.Sizes.{itemSize, roundUp-ge, header-ge}
+use Rattle.laws.proofs.Rounding.{round-up-ge}
+use Rattle.laws.proofs.Sides.{Side, below, above, side}
+use Rattle.fifo.proofs.Sizes.{itemSize, header-ge}
 use Rattle.fifo.proofs.Bytes.{bytes-append, bytes-replicate, bytes-take}
 use Rattle.fifo.proofs.Events.{Avoids, avoid-append}
 use Rattle.fifo.proofs.Words.{words-pad, words-append, words-whole, count-words, avoid-writes}
@@ -48,7 +49,7 @@ module _ (g : Geometry) (pos : 0 < g .word) (slip : List ℕ) where
   unfolding paddedSlip
   length-padded =
       let Z : List ℕ = replicate (padding g slip) 0 in
-      omega (arith, length-append slip Z, length-replicate {A = ℕ} (padding g slip) 0, roundUp-ge (g .word) (length slip) pos)
+      omega (arith, length-append slip Z, length-replicate {A = ℕ} (padding g slip) 0, round-up-ge (g .word) (length slip) pos)
 
   pub length-item : length (itemBytes g slip) ≡ itemSize g (length slip)
   unfolding itemBytes

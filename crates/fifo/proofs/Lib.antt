@@ -1,10 +1,6 @@
-pub mod Sides
 pub mod Sizes
-pub mod Good
-pub mod Lists
 pub mod Blank
 pub mod Bytes
-pub mod Puts
 pub mod Ands
 pub mod Events
 pub mod Words
@@ -18,10 +14,9 @@ pub mod ZeroedScan
 pub mod ZeroedHeader
 pub mod Payloads
 pub mod Views
-pub mod Ring
+pub mod FirstFound
 pub mod RingShape
 pub mod Listed
-pub mod Marks
 pub mod Changed
 pub mod Invariant
 pub mod Marking

@@ -12,8 +12,8 @@ use Rattle.paper.specs.declared.PageState.the-variants.{Open, PartialOpen}
 use Rattle.paper.specs.Scan.{pageWalk, payloads}
 use Rattle.paper.specs.Pages.{around, from, state, same}
 use Rattle.paper.specs.Waiting.{waiting, waitingOn}
-use Rattle.fifo.proofs.Sides.{Side, below, above, side}
-use Rattle.fifo.proofs.Ring.{turn, turn-lt, turn-zero, turn-inj, turn-suc, next-turn}
+use Rattle.laws.proofs.Ring.{turn, turn-lt, turn-zero, turn-once, turn-suc, next-turn}
+use Rattle.laws.proofs.Sides.{Side, below, above, side}
 use Rattle.fifo.proofs.RingShape.{Now, partly, openAfter, openAll, RingShape, youngest-is, oldest-is}
 
 -- the present items of page p
@@ -60,7 +60,7 @@ module _ (g : Geometry) (im : List ℕ) (o b : ℕ) (S : RingShape g im o b) (E 
   wait (suc m) i (suc k) e h =
       let r = S .run-in in
       let ne : eqb (turn g o i) (turn g o b) ≡ false =
-      ne-eqb (turn g o i) (turn g o b) (λ q. let z : i ≡ b = turn-inj g o i b (S .old-in) (omega arith) (S .run-in) q in omega arith) in
+      ne-eqb (turn g o i) (turn g o b) (λ q. let z : i ≡ b = turn-once g o i b (S .old-in) (omega arith) (S .run-in) q in omega arith) in
       rw (ne, next-turn g o i (S .old-in) (omega arith))
       (ap (λ (l : List (List ℕ)). presentIn g im (turn g o i) ++ l) (by (side (suc i) b) (wait m (suc i) k (omega arith) (omega arith))))
     where

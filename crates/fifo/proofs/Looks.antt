@@ -11,8 +11,9 @@ use Rattle.paper.specs.declared.Geometry.{Geometry}
 use Rattle.paper.specs.Checksum.{lengthCrc}
 use Rattle.paper.specs.Chip.{headerSize, part}
 use Rattle.paper.specs.Slip.{stop, bad, item, look, decode, blank, numberOf}
-use Rattle.fifo.proofs.Sizes.{itemSize, roundUp-ge, header-ge}
-use Rattle.fifo.proofs.Lists.{part-take}
+use Rattle.laws.proofs.Parts.{part-take}
+use Rattle.laws.proofs.Rounding.{round-up-ge}
+use Rattle.fifo.proofs.Sizes.{itemSize, header-ge}
 
 -- what an accepted header says of the bytes
 pub record Accepted (g : Geometry) (d : List ℕ) (c n : ℕ) (body : List ℕ) : Type 0 where
@@ -111,7 +112,7 @@ look-same g pos d e {c} {n} {body} l s i = item-look g e (record {
   check = ap lengthCrc (sym (into 4 2 (omega (arith, header-ge g pos)))) ∙ a .check ∙ ap numberOf (into 6 2 (omega (arith, header-ge g pos)));
   crc-is = ap numberOf (sym (into 0 4 (omega (arith, header-ge g pos)))) ∙ a .crc-is;
   len-is = ap numberOf (sym (into 4 2 (omega (arith, header-ge g pos)))) ∙ a .len-is;
-  body-is = sym (into (headerSize g) n (omega (arith, roundUp-ge (g .word) n pos))) ∙ a .body-is;
+  body-is = sym (into (headerSize g) n (omega (arith, round-up-ge (g .word) n pos))) ∙ a .body-is;
 })
   where
     a : Accepted g d c n body

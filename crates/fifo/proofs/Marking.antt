@@ -10,13 +10,12 @@ use Rattle.paper.specs.Chip.{pageData, imageBy}
 use Rattle.paper.specs.Scan.{pageWalk}
 use Rattle.paper.specs.Pages.{isSet, state, startMark, endMark, setStart, setEnd}
 use Rattle.paper.specs.Waiting.{waiting}
-use Rattle.fifo.proofs.Good.{word-pos}
-use Rattle.fifo.proofs.Sides.{Side, below, above, side}
+use Rattle.laws.proofs.Marks.{zeros-set, open-end, partial-start}
+use Rattle.laws.proofs.Ring.{turn}
+use Rattle.laws.proofs.Sides.{Side, below, above, side}
 use Rattle.fifo.proofs.Views.{View, stateIn}
-use Rattle.fifo.proofs.Ring.{turn}
 use Rattle.fifo.proofs.RingShape.{partly, openAfter, RingShape, keep-shape}
 use Rattle.fifo.proofs.Listed.{run, run-append}
-use Rattle.fifo.proofs.Marks.{zeros-set, open-end, partial-start}
 use Rattle.fifo.proofs.Changed.{Changed, zeroMark, still-good, state-other, state-this, walks-same, start-changed, end-changed}
 use Rattle.fifo.proofs.Invariant.{PageOk, Inv, current-in, turn-in, not-current, open-empty, listed, runs-same, pages-still-ok}
 
@@ -49,7 +48,7 @@ module _ {g : Geometry} {im : List ℕ} {o b : ℕ} (I : Inv g im o b) where
 
     is-partial : stateIn v ≡ PartialOpen
     unfolding state
-    is-partial = rw (zeros-set (g .word) (word-pos (I .good)), open-end (isSet (startMark g im c)) (isSet (endMark g im c)) e)
+    is-partial = rw (zeros-set (g .word) (I .good .low), open-end (isSet (startMark g im c)) (isSet (endMark g im c)) e)
 
     pub mark-walks : (q : ℕ) → q < g .pages → pageWalk g (imageBy g (setStart g (turn g o b)) im) q ≡ pageWalk g im q
     mark-walks = walks-same C refl
@@ -83,7 +82,7 @@ module _ {g : Geometry} {im : List ℕ} {o b : ℕ} (I : Inv g im o b) where
 
     is-closed : stateIn u ≡ Closed
     unfolding state
-    is-closed = rw (zeros-set (g .word) (word-pos (I .good)), partial-start (isSet (startMark g im c)) (isSet (endMark g im c)) e)
+    is-closed = rw (zeros-set (g .word) (I .good .low), partial-start (isSet (startMark g im c)) (isSet (endMark g im c)) e)
 
     same-state : (i : ℕ) → i < g .pages → (i ≡ b → ⊥) → state g (imageBy g (setEnd g (turn g o b)) im) (turn g o i) ≡ state g im (turn g o i)
     same-state i h ne = state-other D (turn g o i) (turn-in I i (omega arith)) (not-current I i h ne)

@@ -12,8 +12,9 @@ use Rattle.paper.specs.declared.PageState.the-variants.{Open, PartialOpen, Clos
 use Rattle.paper.specs.Chip.{erase, imageBy, imageAfter, erasePage, Plan, plan, bind, Try, gives}
 use Rattle.paper.specs.Pages.{next, state, same}
 use Rattle.paper.specs.Calls.{Stand, Outcome, nothing, leavePage}
-use Rattle.fifo.proofs.Sides.{Side, below, above, side}
-use Rattle.fifo.proofs.Ring.{turn, turn-full, next-is, not-same}
+use Rattle.laws.proofs.Marks.{not-same}
+use Rattle.laws.proofs.Ring.{turn, turn-full, next-is}
+use Rattle.laws.proofs.Sides.{Side, below, above, side}
 use Rattle.fifo.proofs.RingShape.{Now, partly, openAfter, openAll, RingShape, sound}
 use Rattle.fifo.proofs.Listed.{run}
 use Rattle.fifo.proofs.Invariant.{Inv, turn-in, open-empty}

@@ -15,9 +15,10 @@ use Rattle.paper.specs.Refusals.{Answer, done, shown, empty, refused}
 use Rattle.paper.specs.Calls.{at, tooBig, spotFor, shownBy, popped, this, itemAt}
 use Rattle.paper.specs.Waiting.{waiting}
 use Rattle.paper.specs.Fifo.{Call, pushes, peeks, pops, fits, spaces, erasesAll, cutAfter, planOf, eventsOf, imageNext, ghostNext, listAfter, Bytes, Ghost, Fair, Full}
+use Rattle.laws.proofs.Events.{image-append, before-less, before-more}
+use Rattle.laws.proofs.Sides.{Side, below, above, side}
 use Rattle.fifo.specs.Claims.{ChangesOnce, AlwaysOnce}
-use Rattle.fifo.proofs.Sides.{Side, below, above, side}
-use Rattle.fifo.proofs.Events.{after-append, before-less, before-more, avoid-before}
+use Rattle.fifo.proofs.Events.{avoid-before}
 use Rattle.fifo.proofs.Words.{before-write}
 use Rattle.fifo.proofs.Invariant.{Inv}
 use Rattle.fifo.proofs.Site.{spotOf}
@@ -102,7 +103,7 @@ module _ {g : Geometry} {im : List ℕ} {o b : ℕ} (I : Inv g im o b) (gh : Gho
   late : (k j : ℕ) → storeCount es ≤ k → k - storeCount es ≡ j → listed k ≡ waiting g (imageAfter g (before j it) jm)
   late k j h e =
       list-at g im (pushes slip) is k (before-more k es it h ∙ ap (λ (x : ℕ). es ++ before x it) e)
-      ∙ ap (waiting g) (after-append g es (before j it) im)
+      ∙ ap (waiting g) (image-append g es (before j it) im)
 
   refused-stay : (k j : ℕ) → storeCount es ≤ k → k - storeCount es ≡ j → StayRefused g im gh (es ++ before j it)
   unfolding imageNext ghostNext eventsOf
@@ -124,7 +125,7 @@ module _ {g : Geometry} {im : List ℕ} {o b : ℕ} (I : Inv g im o b) (gh : Gho
   added : (k j : ℕ) → storeCount es ≤ k → k - storeCount es ≡ j → (headerSize g ≤ j * g .word → j < n → ⊥)
       → Added (R .site) slip j (imageAfter g (before j it) jm)
   added k j h e f =
-      rw (after-append g es (before j it) im) at (words-added I gh slip hb t R j (refused-stay k j h e) (λ x y. absurd (f x y)))
+      rw (image-append g es (before j it) im) at (words-added I gh slip hb t R j (refused-stay k j h e) (λ x y. absurd (f x y)))
 
   all : (k : ℕ) → storeCount es + n ≤ k → listed k ≡ longer
   all k h =

@@ -12,9 +12,10 @@ use Rattle.paper.specs.Refusals.{Answer, done}
 use Rattle.paper.specs.Calls.{retry, withRepair, counted, fit, findMaxFit, space, spaceLeft, erases, eraseAll}
 use Rattle.paper.specs.Waiting.{waiting}
 use Rattle.paper.specs.Fifo.{fits, spaces, erasesAll, Power, whole, planOf, fitted, measured, cleared}
-use Rattle.fifo.proofs.Good.{Good}
+use Rattle.laws.proofs.Accepted.{Laid}
+use Rattle.laws.proofs.Marks.{not-same}
+use Rattle.laws.proofs.Ring.{all-pages, pages-only}
 use Rattle.fifo.proofs.Views.{view, erasedView}
-use Rattle.fifo.proofs.Ring.{not-same, all-pages, pages-only}
 use Rattle.fifo.proofs.RingShape.{sound}
 use Rattle.fifo.proofs.Invariant.{Inv}
 use Rattle.fifo.proofs.ErasedRange.{fresh-inv, fresh-list, fresh-heads, erases-wipe}
@@ -74,6 +75,6 @@ module _ {g : Geometry} {im : List ℕ} {o b : ℕ} (I : Inv g im o b) where
   erase-step =
       let jm : List ℕ = imageAfter g (erases g (allPages g)) im in
       let R = erases-wipe g (allPages g) im (I .good) only in
-      let G : Good g (length jm) = rw (R .long) (I .good) in
+      let G : Laid g (length jm) = rw (R .long) (I .good) in
       let E : (p : ℕ) → p < g .pages → view g jm p ≡ erasedView g = λ p h. R .these p h (all-pages g p h) in
       whole-step im erasesAll erase-plan (fresh-inv jm G E) (rw (fresh-list jm G E) cleared) (λ p hp h m. absurd (fresh-heads jm G E p hp h m))

@@ -14,8 +14,9 @@ use Rattle.paper.specs.Refusals.{Answer, shown, empty, refused}
 use Rattle.paper.specs.Calls.{Outcome, this, shownBy, popped, peek, pop}
 use Rattle.paper.specs.Waiting.{waiting}
 use Rattle.paper.specs.Fifo.{peeks, pops, Power, whole, cutAfter, planOf, eventsOf, imageNext, Ghost, ghostNext, Fair, Plain, showsNone, showsNot, shows, takesNone, takesNot, takes}
-use Rattle.fifo.proofs.Sides.{Side, below, above, side}
-use Rattle.fifo.proofs.Events.{Avoids, after-append, buffer-append, before-less, before-more, avoid-append, avoid-before}
+use Rattle.laws.proofs.Events.{image-append, buffer-append, before-less, before-more}
+use Rattle.laws.proofs.Sides.{Side, below, above, side}
+use Rattle.fifo.proofs.Events.{Avoids, avoid-append, avoid-before}
 use Rattle.fifo.proofs.Words.{buffer-writes, before-write, avoid-writes}
 use Rattle.fifo.proofs.Plans.{bind-known, bind-last}
 use Rattle.fifo.proofs.Replaced.{NoneAccepted}
@@ -91,7 +92,7 @@ module _ {g : Geometry} {im : List ℕ} {o b : ℕ} (I : Inv g im o b) (buf : Li
     module _ (fs : List Event) (av : (p : ℕ) → Avoids p fs) (st : StayRefused g im gh (sought .events ++ fs))
         (z : imageAfter g fs fin ≡ put (h .place) zeros4 fin) where
       is : imageAfter g (sought .events ++ fs) im ≡ put (h .place) zeros4 fin
-      is = after-append g E fs im ∙ z
+      is = image-append g E fs im ∙ z
 
       U : NoneAccepted (pageWalk g fin (X .first .old) .refused) (pageWalk g (put (h .place) zeros4 fin) (X .first .old) .heads)
       U = rw is at (unmet im (I .good) gh E (F .inv) fs (F .old) (first-in F) (inr (X .unerased, X .as-it-was)) (av (F .old)) st)

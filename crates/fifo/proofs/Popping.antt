@@ -19,19 +19,19 @@ use Rattle.paper.specs.Scan.{Head, Walk, walk, pageWalk, payloads, present, liv
 use Rattle.paper.specs.Pages.{state, startMark, endMark}
 use Rattle.paper.specs.Waiting.{waiting}
 use Rattle.paper.specs.Fifo.{Bytes}
-use Rattle.fifo.proofs.Good.{Word, four, wide, word-pos}
-use Rattle.fifo.proofs.Sizes.{roundUp-ge, header-ge}
-use Rattle.fifo.proofs.Lists.{length-part}
-use Rattle.fifo.proofs.Bytes.{bytes-take, bytes-drop}
-use Rattle.fifo.proofs.Puts.{put-bytes}
+use Rattle.laws.proofs.Accepted.{Word, four, wide}
+use Rattle.laws.proofs.Parts.{length-part}
+use Rattle.laws.proofs.Ring.{turn, turn-zero, turn-apart}
+use Rattle.laws.proofs.Rounding.{round-up-ge}
+use Rattle.fifo.proofs.Sizes.{header-ge}
+use Rattle.fifo.proofs.Bytes.{bytes-take, bytes-drop, put-bytes}
 use Rattle.fifo.proofs.Looks.{Accepted, look-item}
 use Rattle.fifo.proofs.Replaced.{NoneAccepted, front-of}
 use Rattle.fifo.proofs.Courses.{course-of}
 use Rattle.fifo.proofs.ZeroedScan.{zeros4, HeadOn, head-on, poppedHead, zeroed-walk}
 use Rattle.fifo.proofs.ZeroedHeader.{Heading, zeroing, zeroing-all}
 use Rattle.fifo.proofs.Payloads.{payloads-append}
-use Rattle.fifo.proofs.Views.{View, stateIn, view, in-data, put-inner, page-in, inner-length, inner-high}
-use Rattle.fifo.proofs.Ring.{turn, turn-zero, turn-apart}
+use Rattle.fifo.proofs.Views.{View, stateIn, view, in-data, put-inner, page-inside, inner-length, inner-high}
 use Rattle.fifo.proofs.RingShape.{keep-shape}
 use Rattle.fifo.proofs.Listed.{presentIn, run}
 use Rattle.fifo.proofs.Changed.{Changed, still-good, walk-other, walk-this, states-same, inner-changed}
@@ -63,7 +63,7 @@ module _ {g : Geometry} {im : List ℕ} {h : Head} (F : FirstPresent g im h) whe
   d = pageData g im (F .old)
 
   pos : 0 < g .word
-  pos = word-pos (I .good)
+  pos = I .good .low
 
   pub first-in : F .old < g .pages
   first-in = I .shape .old-in
@@ -107,7 +107,7 @@ module _ {g : Geometry} {im : List ℕ} {h : Head} (F : FirstPresent g im h) whe
   fits : h .place + headerSize g ≤ length im
   fits =
       let k : length front + headerSize g ≤ dataSize g = omega (arith, sizes, A .room) in
-      omega (arith, at, inner-high (I .good) o (length front) (headerSize g) k, page-in im (I .good) o first-in)
+      omega (arith, at, inner-high (I .good) o (length front) (headerSize g) k, page-inside im (I .good) o first-in)
 
   same-header : (i m : ℕ) → i + m ≤ headerSize g → part i m (drop (h .place) im) ≡ part i m (P .from)
   same-header i m k = ap (take m) (drop-drop i (h .place) im) ∙ there i m (omega (arith, A .room))
@@ -124,7 +124,7 @@ module _ {g : Geometry} {im : List ℕ} {h : Head} (F : FirstPresent g im h) whe
       }
 
   body-room : headerSize g + h .len ≤ length (P .from)
-  body-room = omega (arith, A .room, roundUp-ge (g .word) (h .len) pos)
+  body-room = omega (arith, A .room, round-up-ge (g .word) (h .len) pos)
 
   pub body-at : part (h .place + headerSize g) (h .len) im ≡ h .body
   body-at = there (headerSize g) (h .len) body-room ∙ A .body-is
@@ -146,7 +146,7 @@ module _ {g : Geometry} {im : List ℕ} {h : Head} (F : FirstPresent g im h) whe
   crc-stored : (j : ℕ) → 0 < j → 4 ≤ j * g .word
   crc-stored j k = by (I .good .word) (mul-le-mul-right (g .word) k)
     where
-      by : Word g → 1 * g .word ≤ j * g .word → 4 ≤ j * g .word
+      by : Word (g .word) → 1 * g .word ≤ j * g .word → 4 ≤ j * g .word
       by (four e) l = omega arith
       by (wide e) l = omega arith
 

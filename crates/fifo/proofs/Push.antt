@@ -17,10 +17,10 @@ use Rattle.paper.specs.Refusals.{done, refused}
 use Rattle.paper.specs.Calls.{full, at, tooBig, spotFor, itemAt, pushAt, push}
 use Rattle.paper.specs.Waiting.{waiting}
 use Rattle.paper.specs.Fifo.{pushes, Power, whole, cutAfter, planOf, eventsOf, imageNext, Ghost, ghostNext, headerPlan, headerAt, got, Bytes, Fair, Full, added, big, noRoom}
-use Rattle.fifo.proofs.Good.{word-pos}
-use Rattle.fifo.proofs.Sides.{Side, below, above, side}
+use Rattle.laws.proofs.Events.{image-append, before-less, before-more, before-all}
+use Rattle.laws.proofs.Sides.{Side, below, above, side}
 use Rattle.fifo.proofs.Sizes.{header-ge}
-use Rattle.fifo.proofs.Events.{after-append, before-less, before-more, before-all, avoid-append, avoid-before}
+use Rattle.fifo.proofs.Events.{avoid-append, avoid-before}
 use Rattle.fifo.proofs.Words.{header-words}
 use Rattle.fifo.proofs.Plans.{bind-known}
 use Rattle.fifo.proofs.Invariant.{Inv}
@@ -94,13 +94,13 @@ module _ {g : Geometry} {im : List ℕ} {o b : ℕ} (I : Inv g im o b) (gh : Gho
   pub words-clear : (j : ℕ) → StayRefused g im gh (es ++ before j it) → Clear (R .site) (imageAfter g (before j it) (imageAfter g es im))
   words-clear j F =
       let av = avoid-before (current S) j it (avoid-item g (current S) a slip) in
-      rw (after-append g es (before j it) im) at (unmet im (I .good) gh es (S .inv) (before j it) (current S) (site-in S) (R .origin) av F)
+      rw (image-append g es (before j it) im) at (unmet im (I .good) gh es (S .inv) (before j it) (current S) (site-in S) (R .origin) av F)
 
   pub words-added : (j : ℕ) → StayRefused g im gh (es ++ before j it)
       → (headerSize g ≤ j * g .word → j < itemWords g slip → PassesAsSlip (R .site) slip (imageAfter g (es ++ before j it) im))
       → Added (R .site) slip j (imageAfter g (es ++ before j it) im)
   words-added j F P =
-      let q = after-append g es (before j it) im in
+      let q = image-append g es (before j it) im in
       rw q (adding W j (words-clear j F) (rw q at P))
 
   words-traced : (w : Power) (j : ℕ) → (0 < j → headerAt g im (pushes slip) w 0 ≡ spotOf (R .site) ∷ [])
@@ -124,19 +124,19 @@ module _ {g : Geometry} {im : List ℕ} {o b : ℕ} (I : Inv g im o b) (gh : Gho
     -- k stores are the marks and the whole header
     past-header : (k : ℕ) → storeCount es ≤ k → headerSize g ≤ (k - storeCount es) * g .word
         → storeCount es + (wordsFor (g .word) (headerSize g) - 1) < k
-    past-header k l h = omega (arith, header-words g (k - storeCount es) (word-pos (I .good)) h, some (side 0 (k - storeCount es)))
+    past-header k l h = omega (arith, header-words g (k - storeCount es) (I .good .low) h, some (side 0 (k - storeCount es)))
       where
         some : Side 0 (k - storeCount es) → 0 < k - storeCount es
         some (below z) = z
         some (above z) =
             let y : (k - storeCount es) * g .word ≤ 0 * g .word = mul-le-mul-right (g .word) z in
-            let w : ⊥ = omega (arith, header-ge g (word-pos (I .good))) in absurd w
+            let w : ⊥ = omega (arith, header-ge g (I .good .low)) in absurd w
 
     pub at-step : (w : Power) → Fair g im gh (pushes slip) w → Step g im (pushes slip) w
     unfolding imageNext ghostNext eventsOf
     at-step whole F =
         let n : ℕ = itemWords g slip in
-        let all : before n it ≡ it = before-all n it (omega (arith, count-item g (word-pos (I .good)) slip a)) in
+        let all : before n it ≡ it = before-all n it (omega (arith, count-item g (I .good .low) slip a)) in
         let F₁ : StayRefused g im gh (es ++ before n it) = rw all (λ w4. rw pl at (F .noneAgain w4)) in
         let A = words-added n F₁ (λ h k. let z : ⊥ = omega arith in absurd z) in
         let T = words-traced whole n (λ k. header-is g im slip t es a q whole 0 refl) A in

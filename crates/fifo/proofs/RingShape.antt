@@ -8,8 +8,9 @@ use Rattle.paper.specs.declared.PageState.{PageState}
 use Rattle.paper.specs.declared.PageState.the-variants.{Open, PartialOpen, Closed, Corrupted}
 use Rattle.paper.specs.Chip.{gives}
 use Rattle.paper.specs.Pages.{from, allPages, state, found, foundOr, openFrom, first, youngest, oldest}
-use Rattle.fifo.proofs.Sides.{Side, below, above, side}
-use Rattle.fifo.proofs.Ring.{turn, turn-lt, turn-zero, turn-full, placeOf, First, nowhere, somewhere, from-first, from-hit}
+use Rattle.laws.proofs.Ring.{turn, turn-lt, turn-zero, turn-full, placeOf}
+use Rattle.laws.proofs.Sides.{Side, below, above, side}
+use Rattle.fifo.proofs.FirstFound.{First, nowhere, somewhere, from-first, from-hit}
 
 -- the current page: PartialOpen, or Open after some Closed page, or page 0 of a range with none but Open pages
 pub data Now (s : PageState) (o b : ℕ) : Type 0 where

@@ -12,11 +12,11 @@ use Rattle.paper.specs.Scan.{Head, Walk, pageWalk, payloads, present}
 use Rattle.paper.specs.Pages.{next, state}
 use Rattle.paper.specs.Calls.{passed, long, met, readHeads, Stand, onPage, afterPage, Outcome, nothing, short, this, spoilt, onMet, readPage, leavePage, nextItem, nextStep, startStep, searchOn, search}
 use Rattle.paper.specs.Waiting.{waiting}
-use Rattle.fifo.proofs.Good.{word-pos}
-use Rattle.fifo.proofs.Sizes.{roundUp-ge}
-use Rattle.fifo.proofs.Events.{Avoids, avoid-append, buffer-append}
+use Rattle.laws.proofs.Events.{buffer-append}
+use Rattle.laws.proofs.Ring.{turn, turn-zero, turn-suc, turn-apart, next-is}
+use Rattle.laws.proofs.Rounding.{round-up-ge}
+use Rattle.fifo.proofs.Events.{Avoids, avoid-append}
 use Rattle.fifo.proofs.Plans.{bind-known, bind-last, bind-first, no-repair}
-use Rattle.fifo.proofs.Ring.{turn, turn-zero, turn-suc, turn-apart, next-is}
 use Rattle.fifo.proofs.RingShape.{RingShape, oldest-is}
 use Rattle.fifo.proofs.Listed.{presentIn, run}
 use Rattle.fifo.proofs.Changed.{walk-other, erase-changed, erased-walk}
@@ -164,7 +164,7 @@ module _ {g : Geometry} {jm : List ℕ} {o b : ℕ} (I : Inv g jm o b) {old : �
         first = record { old = o; runs = b; inv = I; pre = pre; post = post; heads-are = hs; none-before = ip; is-present = ph }
 
         fits : h .len ≤ u
-        fits = roundUp-ge (g .word) (h .len) (word-pos (I .good))
+        fits = round-up-ge (g .word) (h .len) (I .good .low)
 
         room : h .len ≤ length (part a u jm)
         room = omega (arith, length-take u (drop a jm), length-take (h .len) (drop a jm), ap length (body-at first), body-length first, fits)

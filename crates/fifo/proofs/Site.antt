@@ -13,13 +13,12 @@ use Rattle.paper.specs.Scan.{Head, Walk, walk, pageWalk, freeSpot, payloads}
 use Rattle.paper.specs.Pages.{state, startMark, endMark}
 use Rattle.paper.specs.Waiting.{waiting}
 use Rattle.paper.specs.Fifo.{Bytes}
-use Rattle.fifo.proofs.Good.{word-pos}
+use Rattle.laws.proofs.Ring.{turn}
 use Rattle.fifo.proofs.Bytes.{bytes-append, bytes-left, bytes-right}
 use Rattle.fifo.proofs.Replaced.{NoneAccepted, after}
 use Rattle.fifo.proofs.Tails.{frontOf, front-split, rewalk}
 use Rattle.fifo.proofs.Payloads.{payloads-append}
 use Rattle.fifo.proofs.Views.{View, view, stateIn, inner-length}
-use Rattle.fifo.proofs.Ring.{turn}
 use Rattle.fifo.proofs.RingShape.{partly, keep-shape}
 use Rattle.fifo.proofs.Listed.{presentIn, run, run-append}
 use Rattle.fifo.proofs.Changed.{Changed, still-good, state-other, walk-other, state-this, walk-this}
@@ -57,11 +56,11 @@ module _ {g : Geometry} {im : List ℕ} (S : Site g im) where
 
   -- what stands before the free spot
   pub front : List ℕ
-  front = frontOf g (word-pos (I .good)) (dataStart g (current S)) (pageData g im (current S))
+  front = frontOf g (I .good .low) (dataStart g (current S)) (pageData g im (current S))
 
   pub split : pageData g im (current S) ≡ front ++ scanned S .rest
   unfolding front pageWalk
-  split = front-split g (word-pos (I .good)) (dataStart g c) (pageData g im c)
+  split = front-split g (I .good .low) (dataStart g c) (pageData g im c)
 
   pub sizes : length front + length (scanned S .rest) ≡ dataSize g
   sizes = sym (length-append front (scanned S .rest)) ∙ ap length (sym split) ∙ inner-length im (I .good) c site-in
@@ -110,7 +109,7 @@ module _ {g : Geometry} {im : List ℕ} {S : Site g im} {jm t : List ℕ} {hs : 
       let a : ℕ = dataStart g (current S) in
       let d : List ℕ = pageData g im (current S) in
       let W : Walk = walk g 0 a d in
-      rewalk g (word-pos (I₁ .good)) a d t (rest-blank S) (R .long) (subst (λ (w : Walk). NoneAccepted (W .refused) (w .heads)) (walk-this C) (R .unmet))
+      rewalk g (I₁ .good .low) a d t (rest-blank S) (R .long) (subst (λ (w : Walk). NoneAccepted (W .refused) (w .heads)) (walk-this C) (R .unmet))
       ∙ ap (after (W .heads) (W .refused)) (ap (λ (x : ℕ). walk g 0 x t) (sym (spot-at S)) ∙ R .scan)
 
   pub grow-walk : pageWalk g jm (current S) ≡ new

@@ -15,9 +15,9 @@ use Rattle.paper.specs.Pages.{allPages, state}
 use Rattle.paper.specs.Refusals.{Answer, done, number, refused}
 use Rattle.paper.specs.Calls.{tooBig, spotFor, shownBy, Outcome, counted, spaceBy, spaceOf, space, spaceLeft, eraseAll}
 use Rattle.paper.specs.Fifo.{Call, pushes, peeks, pops, fits, spaces, erasesAll, planOf}
+use Rattle.laws.proofs.Ring.{pages-only}
 use Rattle.fifo.specs.Claims.{Sound, AlwaysSound}
 use Rattle.fifo.proofs.Plans.{bind-last, no-repair}
-use Rattle.fifo.proofs.Ring.{pages-only}
 use Rattle.fifo.proofs.RingShape.{sound}
 use Rattle.fifo.proofs.Invariant.{Inv}
 use Rattle.fifo.proofs.SpotSearch.{Spotted, isFull, isAt, spotted-for}

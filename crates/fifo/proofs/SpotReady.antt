@@ -2,21 +2,21 @@
 use mathlib.Core.List.{List, [], _∷_, _++_}
 use mathlib.Core.Logic.{inl}
 use mathlib.Core.Path.{_≡_, sym, ap, _∙_}
-use Prim.Native.Nat.{ℕ, zero, suc, _+_, _-_, _*_, _/_, _≤_, _<_}
-use native.Mathlib.Nat.{div-add-mod'}
+use Prim.Native.Nat.{ℕ, _+_, _≤_}
 use native.Mathlib.Omega.{arith}
 use lib.ListN.{length}
 use Rattle.paper.specs.declared.Geometry.{Geometry}
 use Rattle.paper.specs.declared.PageState.the-variants.{Open}
-use Rattle.paper.specs.Chip.{roundDown, headerSize, dataStart, dataSize, dataEnd, pageData, Event, imageBy, imageAfter}
+use Rattle.paper.specs.Chip.{headerSize, dataStart, dataSize, dataEnd, pageData, Event, imageBy, imageAfter}
 use Rattle.paper.specs.Scan.{Walk, pageWalk, freeSpot}
 use Rattle.paper.specs.Pages.{state, setStart}
 use Rattle.paper.specs.Waiting.{waiting}
-use Rattle.fifo.proofs.Good.{Good, word-pos}
-use Rattle.fifo.proofs.Sizes.{itemSize, serves-room, roundDown-whole}
-use Rattle.fifo.proofs.Events.{after-append, one-event}
+use Rattle.laws.proofs.Events.{image-append}
+use Rattle.laws.proofs.Places.{data-whole}
+use Rattle.laws.proofs.Ring.{turn}
+use Rattle.fifo.proofs.Sizes.{itemSize, serves-room}
+use Rattle.fifo.proofs.Events.{one-event}
 use Rattle.fifo.proofs.Views.{inner-length}
-use Rattle.fifo.proofs.Ring.{turn}
 use Rattle.fifo.proofs.Invariant.{Inv, current-in, open-walk}
 use Rattle.fifo.proofs.Marking.{mark-inv, mark-list, mark-state, mark-walks}
 use Rattle.fifo.proofs.Site.{Site, current, scanned, spotOf}
@@ -35,21 +35,6 @@ pub free-start : (g : Geometry) (im : List ℕ) (p : ℕ) → length (pageWalk g
 unfolding freeSpot dataEnd
 free-start g im p e = omega arith
 
--- a page's data is whole words
-less-two : (w k p : ℕ) → p ≡ k * w → 2 * w ≤ p → 0 < w → p - 2 * w ≡ (k - 2) * w
-less-two w zero p e h l = omega arith
-less-two w (suc zero) p e h l = omega arith
-less-two w (suc (suc k)) p e h l = let z : suc (suc k) - 2 ≡ k = omega arith in rw z (omega arith)
-
-pub data-whole : {g : Geometry} {n : ℕ} → Good g n → roundDown (g .word) (dataSize g) ≡ dataSize g
-unfolding dataSize
-data-whole {g} G =
-    let w : ℕ = g .word in
-    let k : ℕ = g .page / w in
-    let z : g .page ≡ k * w = sym (div-add-mod' (g .page) w) ∙ omega (arith, G .whole) in
-    let y : g .page - 2 * w ≡ (k - 2) * w = less-two w k (g .page) z (omega (arith, G .room)) (word-pos G) in
-    rw y (roundDown-whole w (k - 2) (word-pos G))
-
 -- the events es have come to an Open current page, which is now start-marked
 pub ready-mark : {g : Geometry} (im : List ℕ) (n : ℕ) → headerSize g + n ≤ dataSize g → (es : List Event) → Steady g (waiting g im) im es
     → {o b : ℕ} (I : Inv g (imageAfter g es im) o b) → state g (imageAfter g es im) (turn g o b) ≡ Open
@@ -62,7 +47,7 @@ ready-mark {g} im n fits es T {o} {b} I e l =
           (rests (record { old = o; runs = b; inv = mark-inv I e; list = mark-list I e ∙ l })));
       site = record { old = o; runs = b; inv = rw after (mark-inv I e); partly-now = rw after (mark-state I e) };
       at-spot = rw after (sym (free-start g km c all));
-      room = rw (after, all) (serves-room g (dataSize g) n (word-pos G) (rw (data-whole G) fits));
+      room = rw (after, all) (serves-room g (dataSize g) n (G .low) (rw (data-whole g (G .whole)) fits));
       origin = inl (rw (after, scan));
     }
   where
@@ -76,7 +61,7 @@ ready-mark {g} im n fits es T {o} {b} I e l =
     km = imageBy g (setStart g c) jm
 
     after : imageAfter g (es ++ (setStart g c ∷ [])) im ≡ km
-    after = after-append g es (setStart g c ∷ []) im ∙ one-event g jm (setStart g c)
+    after = image-append g es (setStart g c ∷ []) im ∙ one-event g jm (setStart g c)
 
     scan : pageWalk g km c ≡ record { heads = []; refused = []; rest = pageData g jm c }
     scan = mark-walks I e c (current-in I) ∙ open-walk I c (current-in I) e

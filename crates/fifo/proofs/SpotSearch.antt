@@ -16,13 +16,14 @@ use Rattle.paper.specs.Pages.{next, state, setStart, setEnd, youngest}
 use Rattle.paper.specs.Calls.{Spot, full, at, turnPage, spotOn, spotStep, spotFor}
 use Rattle.paper.specs.Waiting.{waiting}
 use Rattle.paper.specs.Fifo.{Full}
-use Rattle.fifo.proofs.Good.{Good, word-pos}
-use Rattle.fifo.proofs.Sides.{Side, below, above, side}
+use Rattle.laws.proofs.Accepted.{Laid}
+use Rattle.laws.proofs.Places.{data-whole}
+use Rattle.laws.proofs.Ring.{turn, turn-zero, turn-suc, turn-full, turn-apart, turn-once, next-turn}
+use Rattle.laws.proofs.Sides.{Side, below, above, side}
 use Rattle.fifo.proofs.Sizes.{serves-room}
 use Rattle.fifo.proofs.Plans.{no-repair}
 use Rattle.fifo.proofs.Payloads.{no-live}
 use Rattle.fifo.proofs.Views.{inner-length}
-use Rattle.fifo.proofs.Ring.{turn, turn-zero, turn-suc, turn-full, turn-apart, turn-inj, next-turn}
 use Rattle.fifo.proofs.RingShape.{Now, partly, openAfter, openAll, RingShape, youngest-is}
 use Rattle.fifo.proofs.Changed.{state-other, erase-changed}
 use Rattle.fifo.proofs.Invariant.{Inv, current-in, open-walk}
@@ -30,7 +31,7 @@ use Rattle.fifo.proofs.Marking.{mark-walks, close-inv, close-open, clos
 use Rattle.fifo.proofs.Erasing.{erase-inv, erase-list, sole-inv, sole-list, sole-open}
 use Rattle.fifo.proofs.Steady.{Keeps, rests, goes, endMarked, erased}
 use Rattle.fifo.proofs.SpotPlan.{reused, take-is, sole-is, open-is, partly-is, here-is, turn-is}
-use Rattle.fifo.proofs.SpotReady.{SpotReady, free-start, data-whole, ready-mark}
+use Rattle.fifo.proofs.SpotReady.{SpotReady, free-start, ready-mark}
 
 -- what a search for a spot comes to: a refusal, or the spot after some events
 pub data Spotted (g : Geometry) (im : List ℕ) (n : ℕ) (p : Plan (Try Unit Spot)) : Type 0 where
@@ -52,9 +53,9 @@ serves-le : (g : Geometry) (r : List ℕ) (n : ℕ) → serves g r n ≡ true �
 unfolding serves
 serves-le g r n e = leb-true (headerSize g + n) (roundDown (g .word) (length r)) e
 
-serves-all : {g : Geometry} {m : ℕ} → Good g m → (r : List ℕ) (n : ℕ) → length r ≡ dataSize g → headerSize g + n ≤ dataSize g → serves g r n ≡ true
+serves-all : {g : Geometry} {m : ℕ} → Laid g m → (r : List ℕ) (n : ℕ) → length r ≡ dataSize g → headerSize g + n ≤ dataSize g → serves g r n ≡ true
 unfolding serves
-serves-all {g} G r n l fits = rw (l, data-whole G) (le-leb (headerSize g + n) (dataSize g) fits)
+serves-all {g} G r n l fits = rw (l, data-whole g (G .whole)) (le-leb (headerSize g + n) (dataSize g) fits)
 
 -- ---- the cases
 
@@ -101,7 +102,7 @@ module _ {g : Geometry} {im : List ℕ} {o b : ℕ} (I : Inv g im o b) (n : ℕ)
       steady = rests K;
       site = record { old = o; runs = b; inv = I; partly-now = e };
       at-spot = refl;
-      room = serves-room g (length (pageWalk g im c .rest)) n (word-pos (I .good)) (serves-le g (pageWalk g im c .rest) n s);
+      room = serves-room g (length (pageWalk g im c .rest)) n (I .good .low) (serves-le g (pageWalk g im c .rest) n s);
       origin = inr (tt, refl);
     }) (served s)
 
@@ -132,7 +133,7 @@ module _ {g : Geometry} {im : List ℕ} {o b : ℕ} (I : Inv g im o b) (n : ℕ)
 
           again : (state g im x ≡ Closed) ⊎ (x ≡ c) → ⊥
           again (inl q) = let y = op in let z : _≡_ {A = ℕ} 0 1 = cc in omega arith
-          again (inr q) = let z : suc b ≡ b = turn-inj g o (suc b) b (S .old-in) h (S .run-in) q in omega arith
+          again (inr q) = let z : suc b ≡ b = turn-once g o (suc b) b (S .old-in) h (S .run-in) q in omega arith
 
       -- the ring is full: the next page is the oldest
       module _ (h : suc b ≡ g .pages) where

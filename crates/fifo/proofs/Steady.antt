@@ -11,7 +11,7 @@ use Rattle.paper.specs.Chip.{Event, store, erase, copy, imageBy, imageAfter, be
 use Rattle.paper.specs.Scan.{Head, Walk, pageWalk}
 use Rattle.paper.specs.Pages.{setStart, setEnd}
 use Rattle.paper.specs.Waiting.{waiting}
-use Rattle.fifo.proofs.Good.{Good}
+use Rattle.laws.proofs.Accepted.{Laid}
 use Rattle.fifo.proofs.Events.{Avoids}
 use Rattle.fifo.proofs.Changed.{walk-other, walks-same, start-changed, end-changed, erase-changed, erased-walk}
 use Rattle.fifo.proofs.Invariant.{Inv}
@@ -63,7 +63,7 @@ HeadOf g im p h = List·Memᴰ h (pageWalk g im p .heads)
 same-heads : {v w : Walk} {h : Head} → v ≡ w → List·Memᴰ h (v .heads) → List·Memᴰ h (w .heads)
 same-heads {h = h} e m = subst (λ (x : Walk). List·Memᴰ h (x .heads)) e m
 
-was-before : {g : Geometry} (im : List ℕ) → Good g (length im) → {e : Event} → AddsNoHead g e → (p : ℕ) → p < g .pages → (h : Head)
+was-before : {g : Geometry} (im : List ℕ) → Laid g (length im) → {e : Event} → AddsNoHead g e → (p : ℕ) → p < g .pages → (h : Head)
     → HeadOf g (imageBy g e im) p h
     → (es : List Event) → Avoids p es → HeadOf g im p h × Avoids p (e ∷ es)
 unfolding setStart setEnd imageBy

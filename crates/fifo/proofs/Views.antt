@@ -1,8 +1,8 @@
 -- A page as its two marks and its data; what a put changes of it, and of no other page. Assumes nothing.
 use mathlib.Core.List.{List}
 use mathlib.Core.Path.{_≡_, sym, ap, _∙_}
-use Prim.Native.Nat.{ℕ, suc, _+_, _≤_, _<_}
-use native.Mathlib.Nat.{mul-le-mul-right, add-zero}
+use Prim.Native.Nat.{ℕ, _+_, _*_, _≤_, _<_}
+use native.Mathlib.Nat.{add-zero}
 use native.Mathlib.Omega.{arith}
 use lib.ListN.{length, take, drop, replicate, length-replicate}
 use lib.Seq.{drop-drop}
@@ -11,10 +11,12 @@ use Rattle.paper.specs.declared.PageState.{PageState}
 use Rattle.paper.specs.Chip.{pageStart, dataStart, dataEnd, dataSize, pageData, pageBytes, put, part}
 use Rattle.paper.specs.Scan.{walk, pageWalk}
 use Rattle.paper.specs.Pages.{stateBy, isSet, startMark, endMark, state}
-use Rattle.fifo.proofs.Good.{Good}
-use Rattle.fifo.proofs.Sides.{Side, below, above, side}
-use Rattle.fifo.proofs.Lists.{part-take, length-part, part-replicate}
-use Rattle.fifo.proofs.Puts.{part-before, part-after, part-put-at, part-in, part-of-put}
+use Rattle.laws.proofs.Accepted.{Laid}
+use Rattle.laws.proofs.PageBytes as page-bytes
+use Rattle.laws.proofs.PageBytes.{put-elsewhere}
+use Rattle.laws.proofs.Parts.{part-take, length-part, part-replicate}
+use Rattle.laws.proofs.Places.{page-in}
+use Rattle.laws.proofs.Puts.{part-before, part-after, part-put-at, part-around, part-of-put}
 
 pub record View : Type 0 where
   pub first : List ℕ
@@ -44,23 +46,14 @@ view-equal p q r = cc
 
 -- ---- where pages lie
 
-pub page-split : {g : Geometry} {n : ℕ} → Good g n → g .page ≡ g .word + dataSize g + g .word
-unfolding dataSize
-page-split G = omega (arith, G .room)
-
-pub page-next : (g : Geometry) (p : ℕ) → pageStart g (suc p) ≡ pageStart g p + g .page
-unfolding pageStart
-page-next g p = omega arith
-
-pub page-below : (g : Geometry) (p q : ℕ) → p < q → pageStart g p + g .page ≤ pageStart g q
-unfolding pageStart
-page-below g p q h = omega (arith, mul-le-mul-right (g .page) h)
+pub page-split : {g : Geometry} {n : ℕ} → Laid g n → g .page ≡ g .word + dataSize g + g .word
+page-split {g} G = page-bytes.page-split g (omega (arith, G .room))
 
 pub inner-low : (g : Geometry) (p i : ℕ) → pageStart g p ≤ dataStart g p + i
 unfolding dataStart
 inner-low g p i = omega arith
 
-pub inner-high : {g : Geometry} {n : ℕ} → Good g n → (p i l : ℕ) → i + l ≤ dataSize g → dataStart g p + i + l ≤ pageStart g p + g .page
+pub inner-high : {g : Geometry} {n : ℕ} → Laid g n → (p i l : ℕ) → i + l ≤ dataSize g → dataStart g p + i + l ≤ pageStart g p + g .page
 unfolding dataStart
 inner-high G p i l h = omega (arith, page-split G)
 
@@ -73,46 +66,32 @@ in-page : (g : Geometry) (im : List ℕ) (p i m : ℕ) → i + m ≤ g .page →
 unfolding pageBytes
 in-page g im p i m h = ap (take m) (sym (drop-drop i (pageStart g p) im)) ∙ sym (part-take i m (g .page) (drop (pageStart g p) im) h)
 
-module _ {g : Geometry} (im : List ℕ) (G : Good g (length im)) where
-  pub page-in : (p : ℕ) → p < g .pages → pageStart g p + g .page ≤ length im
-  page-in p h = omega (arith, page-below g p (g .pages) h, G .fits)
+module _ {g : Geometry} (im : List ℕ) (G : Laid g (length im)) where
+  pub page-inside : (p : ℕ) → p < g .pages → pageStart g p + g .page ≤ length im
+  page-inside p h = omega (arith, page-in g p h, G .ends)
 
   pub inner-length : (p : ℕ) → p < g .pages → length (pageData g im p) ≡ dataSize g
   unfolding pageData dataStart
-  inner-length p h = length-part (pageStart g p + g .word) (dataSize g) im (omega (arith, page-in p h, page-split G))
+  inner-length p h = length-part (pageStart g p + g .word) (dataSize g) im (omega (arith, page-inside p h, page-split G))
 
   -- ---- a put
 
   -- bytes put into page q are in no other page
   pub elsewhere : (q a : ℕ) (x : List ℕ) → q < g .pages → pageStart g q ≤ a → a + length x ≤ pageStart g q + g .page
       → (p : ℕ) → p < g .pages → (p ≡ q → ⊥) → view g (put a x im) p ≡ view g im p
-  unfolding startMark endMark pageData dataStart dataEnd
-  elsewhere q a x hq low high p hp ne = by (side p q) (side q p)
-    where
-      fits : a + length x ≤ length im
-      fits = omega (arith, page-in q hq)
-
-      s : ℕ
-      s = pageStart g p
-
-      by : Side p q → Side q p → view g (put a x im) p ≡ view g im p
-      by (below l) k =
-          let b : s + g .page ≤ a = omega (arith, page-below g p q l) in
-          let w = page-split G in
-          view-equal (part-before a x im fits s (g .word) (omega arith)) (part-before a x im fits (s + g .word) (dataSize g) (omega arith))
-          (part-before a x im fits (s + g .word + dataSize g) (g .word) (omega arith))
-      by (above l) (below k) =
-          let b : a + length x ≤ s = omega (arith, page-below g q p k) in
-          view-equal (part-after a x im fits s (g .word) (omega arith)) (part-after a x im fits (s + g .word) (dataSize g) (omega arith))
-          (part-after a x im fits (s + g .word + dataSize g) (g .word) (omega arith))
-      by (above l) (above k) = absurd (ne (omega arith))
+  elsewhere q a x hq low high p hp ne =
+      let m : 2 * g .word ≤ g .page = omega (arith, G .room) in
+      let e = put-elsewhere g im (G .ends) q a x hq low high p hp ne in
+      view-equal (page-bytes.start-part g m (put a x im) p ∙ ap (part 0 (g .word)) e ∙ sym (page-bytes.start-part g m im p))
+      (page-bytes.data-part g m (put a x im) p ∙ ap (part (g .word) (dataSize g)) e ∙ sym (page-bytes.data-part g m im p))
+      (page-bytes.end-part g m (put a x im) p ∙ ap (part (g .word + dataSize g) (g .word)) e ∙ sym (page-bytes.end-part g m im p))
 
   module _ (p : ℕ) (hp : p < g .pages) (x : List ℕ) where
     pub put-first : length x ≡ g .word → view g (put (pageStart g p) x im) p ≡ record { first = x; inner = pageData g im p; last = endMark g im p }
     unfolding startMark endMark pageData dataStart dataEnd
     put-first e =
         let s : ℕ = pageStart g p in
-        let f : s + length x ≤ length im = omega (arith, page-in p hp, page-split G) in
+        let f : s + length x ≤ length im = omega (arith, page-inside p hp, page-split G) in
         view-equal (ap (λ (k : ℕ). part s k (put s x im)) (sym e) ∙ part-put-at s x im f)
         (part-after s x im f (s + g .word) (dataSize g) (omega arith)) (part-after s x im f (s + g .word + dataSize g) (g .word) (omega arith))
 
@@ -121,7 +100,7 @@ module _ {g : Geometry} (im : List ℕ) (G : Good g (length im)) where
     put-last e =
         let s : ℕ = pageStart g p in
         let a : ℕ = s + g .word + dataSize g in
-        let f : a + length x ≤ length im = omega (arith, page-in p hp, page-split G) in
+        let f : a + length x ≤ length im = omega (arith, page-inside p hp, page-split G) in
         view-equal (part-before a x im f s (g .word) (omega arith)) (part-before a x im f (s + g .word) (dataSize g) (omega arith))
         (ap (λ (k : ℕ). part a k (put a x im)) (sym e) ∙ part-put-at a x im f)
 
@@ -131,8 +110,8 @@ module _ {g : Geometry} (im : List ℕ) (G : Good g (length im)) where
     put-inner i e =
         let s : ℕ = pageStart g p in
         let a : ℕ = s + g .word in
-        let f : a + i + length x ≤ length im = omega (arith, page-in p hp, page-split G) in
-        view-equal (part-before (a + i) x im f s (g .word) (omega arith)) (part-in a (dataSize g) i x im (omega (arith, page-in p hp, page-split G)) e)
+        let f : a + i + length x ≤ length im = omega (arith, page-inside p hp, page-split G) in
+        view-equal (part-before (a + i) x im f s (g .word) (omega arith)) (part-around a (dataSize g) i x im (omega (arith, page-inside p hp, page-split G)) e)
         (part-after (a + i) x im f (s + g .word + dataSize g) (g .word) (omega arith))
 
   -- ---- an erased page
@@ -150,7 +129,7 @@ module _ {g : Geometry} (im : List ℕ) (G : Good g (length im)) where
   put-all p hp =
       let s : ℕ = pageStart g p in
       let x : List ℕ = replicate (g .page) 255 in
-      all-ff (put s x im) p (λ i m h. part-of-put s x im i m (omega (arith, page-in p hp)) (omega (arith, length-replicate {A = ℕ} (g .page) 255))
+      all-ff (put s x im) p (λ i m h. part-of-put s x im i m (omega (arith, page-inside p hp)) (omega (arith, length-replicate {A = ℕ} (g .page) 255))
       ∙ part-replicate i m (g .page) 255 h)
 
   pub erased-view : (p : ℕ) → pageBytes g im p ≡ replicate (g .page) 255 → view g im p ≡ erasedView g

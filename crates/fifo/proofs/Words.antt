@@ -8,10 +8,11 @@ use lib.ListN.{length, take, drop, replicate, length-drop, replicate-append-repl
 use lib.Seq.{drop-drop, take-add, length-take-le, take-append-le, drop-append-le}
 use Rattle.paper.specs.declared.Geometry.{Geometry}
 use Rattle.paper.specs.Chip.{roundUp, wordsFor, headerSize, put, ands, Event, store, imageBy, imageAfter, storeCount, before, words, bufferBy, bufferAfter, writes}
-use Rattle.fifo.proofs.Lists.{drop-replicate, take-replicate, take-append, drop-append}
-use Rattle.fifo.proofs.Puts.{length-put, drop-put-after, put-nil, put-put}
-use Rattle.fifo.proofs.Ands.{ands-length, ands-append, ands-nil}
-use Rattle.fifo.proofs.Events.{Avoids, before-more}
+use Rattle.laws.proofs.Ands.{ands-length, ands-append, ands-nil}
+use Rattle.laws.proofs.Events.{before-more}
+use Rattle.laws.proofs.Parts.{drop-replicate, take-replicate, take-append, drop-append}
+use Rattle.laws.proofs.Puts.{length-put, drop-through, put-nil, put-put}
+use Rattle.fifo.proofs.Events.{Avoids}
 
 pub count-words : (w k a : ℕ) (bs : List ℕ) → storeCount (words w k a bs) ≡ k
 unfolding words storeCount
@@ -51,7 +52,7 @@ two : (a w : ℕ) (x y im : List ℕ) → length x ≡ w → a + w + length y �
 two a w x y im e = subst (λ (k : ℕ). a + k + length y ≤ length im → put (a + k) y (put a x im) ≡ put a (x ++ y) im) e (put-put a x y im)
 
 beyond : (a w : ℕ) (x im : List ℕ) → length x ≡ w → a + w ≤ length im → drop (a + w) (put a x im) ≡ drop (a + w) im
-beyond a w x im e = subst (λ (k : ℕ). a + k ≤ length im → drop (a + k) (put a x im) ≡ drop (a + k) im) e (drop-put-after a x im)
+beyond a w x im e = subst (λ (k : ℕ). a + k ≤ length im → drop (a + k) (put a x im) ≡ drop (a + k) im) e (drop-through a x im)
 
 no-words : (w a : ℕ) (bs im : List ℕ) → im ≡ put a (ands (drop a im) (take (0 * w) bs)) im
 no-words w a bs im = rw (zero-mul, ands-nil) (sym (put-nil a im))

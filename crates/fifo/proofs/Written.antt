@@ -14,17 +14,17 @@ use Rattle.paper.specs.Scan.{Head, walk, pageWalk}
 use Rattle.paper.specs.Pages.{startMark, endMark}
 use Rattle.paper.specs.Calls.{itemAt}
 use Rattle.paper.specs.Fifo.{Bytes}
+use Rattle.laws.proofs.Puts.{put-at-end}
+use Rattle.laws.proofs.Rounding.{round-up-ge}
 use Rattle.checksum.proofs.Adjusted.{data-low, data-lt}
-use Rattle.fifo.proofs.Good.{word-pos}
-use Rattle.fifo.proofs.Sizes.{itemSize, roundUp-ge, header-ge}
+use Rattle.fifo.proofs.Sizes.{itemSize, header-ge}
 use Rattle.fifo.proofs.Blank.{blank-take, blank-drop}
 use Rattle.fifo.proofs.Bytes.{bytes-append, bytes-drop}
-use Rattle.fifo.proofs.Puts.{put-at-end}
 use Rattle.fifo.proofs.Ands.{ands-blank}
 use Rattle.fifo.proofs.Words.{words-prefix}
 use Rattle.fifo.proofs.Replaced.{NoneAccepted}
 use Rattle.fifo.proofs.Tails.{item-walk, half-walk}
-use Rattle.fifo.proofs.Views.{View, in-data, put-inner, page-in, page-split}
+use Rattle.fifo.proofs.Views.{View, in-data, put-inner, page-inside, page-split}
 use Rattle.fifo.proofs.Changed.{Changed, inner-changed}
 use Rattle.fifo.proofs.Site.{Site, current, scanned, spotOf, site-in, front, split, sizes, spot-at, rest-blank, rest-bytes, withTail, Regrown}
 use Rattle.fifo.proofs.Item.{headerOf, paddedSlip, itemBytes, itemWords, length-header, length-padded, length-item, item-size, item-words, written, bytes-written, within-item, length-written, one-word}
@@ -51,11 +51,11 @@ module _ {g : Geometry} {im : List ℕ} {S : Site g im} {slip : List ℕ} (F : W
   rest = scanned S .rest
 
   pos : 0 < g .word
-  pos = word-pos (S .inv .good)
+  pos = S .inv .good .low
 
   spot-in : spotOf S + length (scanned S .rest) ≤ length im
   unfolding dataStart
-  spot-in = omega (arith, spot-at S, sizes S, page-in im (S .inv .good) c (site-in S), page-split (S .inv .good))
+  spot-in = omega (arith, spot-at S, sizes S, page-inside im (S .inv .good) c (site-in S), page-split (S .inv .good))
 
   -- bytes from the spot on, in the page's data
   at-spot : (jm : List ℕ) (i n : ℕ) → length (front S) + i + n ≤ dataSize g
@@ -186,13 +186,13 @@ module _ {g : Geometry} {im : List ℕ} {S : Site g im} {slip : List ℕ} (F : W
           let f : ℕ = length (front S) in
           let d : drop (headerSize g) (drop f (front S ++ tail-now)) ≡ behind =
           ap (drop (headerSize g)) (drop-at (front S) tail-now f refl ∙ tail-is) ∙ drop-at E behind (headerSize g) (length-header g pos slip) in
-          at-spot (withWords S slip j) (headerSize g) n (omega (arith, sizes S, roundUp-ge (g .word) (length slip) pos, F .room))
+          at-spot (withWords S slip j) (headerSize g) n (omega (arith, sizes S, round-up-ge (g .word) (length slip) pos, F .room))
           ∙ ap (λ (v : View). part (headerSize g) n (drop f (v .inner))) (words-changed .this) ∙ ap (take n) d
 
   -- words of 4, and only the first word of the header is there
   module _ (w4 : g .word ≡ 4) where
     abbrev one : 1 ≤ itemWords g slip
-    one = one-word g (word-pos (S .inv .good)) slip
+    one = one-word g (S .inv .good .low) slip
 
     half-tail : tail-now 1 one ≡ bytesOf 4 (dataCrc slip) ++ drop 4 (scanned S .rest)
     unfolding tail-now written itemBytes encode bytesOf

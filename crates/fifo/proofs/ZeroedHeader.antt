@@ -11,15 +11,16 @@ use Rattle.paper.specs.Checksum.{lengthCrc}
 use Rattle.paper.specs.Chip.{roundUp, wordsFor, headerSize, part, put, ands, Event, imageAfter, before, storeCount, words, writes}
 use Rattle.paper.specs.Slip.{encode, bytesOf, numberOf}
 use Rattle.paper.specs.Fifo.{Bytes}
+use Rattle.laws.proofs.Ands.{ands-zeros, ands-append}
+use Rattle.laws.proofs.Events.{before-all}
+use Rattle.laws.proofs.Parts.{part-take, length-part}
+use Rattle.laws.proofs.Puts.{length-put, part-after, put-put, put-self}
+use Rattle.laws.proofs.Sides.{Side, below, above, side}
 use Rattle.fifo.proofs.Sizes.{header-ge}
-use Rattle.fifo.proofs.Lists.{part-take, length-part}
 use Rattle.fifo.proofs.Bytes.{bytes-take, bytes-drop, number-back}
-use Rattle.fifo.proofs.Puts.{length-put, part-after, put-put, put-self}
-use Rattle.fifo.proofs.Ands.{ands-zeros, ands-append, ands-kept}
-use Rattle.fifo.proofs.Events.{before-all}
+use Rattle.fifo.proofs.Ands.{ands-kept}
 use Rattle.fifo.proofs.Words.{words-prefix, words-whole, count-words}
 use Rattle.fifo.proofs.Headers.{length-encode}
-use Rattle.fifo.proofs.Sides.{Side, below, above, side}
 use Rattle.fifo.proofs.ZeroedScan.{zeros4}
 
 -- the bytes x begin with a header of length n

@@ -10,8 +10,8 @@ use Rattle.paper.specs.declared.Geometry.{Geometry}
 use Rattle.paper.specs.Chip.{headerSize, put}
 use Rattle.paper.specs.Slip.{item, look, blank, numberOf}
 use Rattle.paper.specs.Scan.{Head, Walk, onward, walk}
+use Rattle.laws.proofs.Puts.{put-at-end}
 use Rattle.fifo.proofs.Sizes.{itemSize, header-ge, header-word}
-use Rattle.fifo.proofs.Puts.{put-at-end}
 use Rattle.fifo.proofs.Looks.{look-item, look-bad, item-look}
 use Rattle.fifo.proofs.Headers.{first-used}
 use Rattle.fifo.proofs.Courses.{Course, here, past, over, walk-step, course-of, walk-stops, course-walk}

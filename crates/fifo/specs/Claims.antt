@@ -6,7 +6,6 @@ use Rattle.paper.specs.declared.Geometry.{Geometry}
 use Rattle.paper.specs.declared.Refusal.{Refusal}
 use Rattle.paper.specs.declared.Refusal.the-variants as refusal
 use Rattle.paper.specs.declared.PageState.the-variants.{Corrupted}
-use Rattle.paper.specs.Chip.{Plan}
 use Rattle.paper.specs.Pages.{state, repair}
 use Rattle.paper.specs.Refusals.{refused}
 use Rattle.paper.specs.Waiting.{waiting}

@@ -6,7 +6,8 @@ use native.Mathlib.Numerals.{add-one}
 use lib.ListN.{length, getD, set, drop, drop-of-length-le}
 use lib.Seq.{drop-cons}
 use Rattle.paper.specs.Chip.{put}
-use Rattle.chip.proofs.Stores.{put-nil, put-cons}
+use Rattle.laws.proofs.Puts.{put-nil}
+use Rattle.chip.proofs.Stores.{put-cons}
 
 pub copy-step : (s d : List ℕ) (i : ℕ) → i < length s → i < length d
     → put i (drop i s) d ≡ put (i + 1) (drop (i + 1) s) (set d i (getD s i 0))

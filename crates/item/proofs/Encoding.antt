@@ -9,9 +9,9 @@ use Rattle.paper.specs.declared.Geometry.{Geometry}
 use Rattle.paper.specs.Checksum.{lengthCrc}
 use Rattle.paper.specs.Chip.{roundUp, headerSize}
 use Rattle.paper.specs.Slip.{bytesOf, encode}
+use Rattle.laws.proofs.Parts.{take-replicate}
 use Rattle.chip.specs.Within.{Good}
-use Rattle.chip.proofs.Rounding.{round-up-again}
-use Rattle.chip.proofs.Writing.{take-replicate}
+use Rattle.laws.proofs.Rounding.{round-up-again}
 
 module _ (g : Geometry) (good : Good g) (crc len : ℕ) where
   -- four bytes of the CRC, two of the length, two of its checksum s, and FF

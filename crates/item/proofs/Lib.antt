@@ -8,6 +8,5 @@ pub mod Walking
 pub mod Live
 pub mod PageScan
 pub mod Serving
-pub mod Fresh
 pub mod ReadingItem
 pub mod ReadingHeads

@@ -1,10 +1,10 @@
--- Parts of a list of bytes: parts of parts, and parts written out. Assumes nothing.
-use mathlib.Core.Path.{_≡_, sym, ap, ap₂, _∙_}
+-- Parts of a list of bytes, further on, and written out. Assumes nothing.
+use mathlib.Core.Path.{_≡_, sym, ap₂, _∙_}
 use mathlib.Core.List.{List, [], _∷_, _++_}
 use Prim.Native.Nat.{ℕ, zero, suc, _+_, _-_, _≤_}
 use native.Mathlib.Omega.{arith}
-use lib.ListN.{length, getD, take, drop, length-take, length-drop}
-use lib.Seq.{drop-drop, take-take, take-add, take-nil, drop-cons}
+use lib.ListN.{length, getD, take, drop}
+use lib.Seq.{drop-drop, take-add, take-nil, drop-cons}
 use Rattle.paper.specs.Chip.{part}
 
 drop-take : (k n : ℕ) (l : List ℕ) → drop k (take n l) ≡ take (n - k) (drop k l)
@@ -13,18 +13,11 @@ drop-take (suc k) zero l = let e : 0 - suc k ≡ 0 = omega arith in rw e
 drop-take (suc k) (suc n) [] = sym (take-nil (suc n - suc k))
 drop-take (suc k) (suc n) (x ∷ l) = let e : suc n - suc k ≡ n - k = omega arith in rw e (drop-take k n l)
 
-pub part-part : (l : List ℕ) (a m k n : ℕ) → k + n ≤ m → part k n (part a m l) ≡ part (a + k) n l
-part-part l a m k n h =
-    ap (take n) (drop-take k m (drop a l)) ∙ take-take n (m - k) (drop k (drop a l)) (omega arith) ∙ ap (take n) (drop-drop k a l)
-
 -- what stands up to place e, n bytes further on
 pub drop-part : (l : List ℕ) (a e n : ℕ) → drop n (part a (e - a) l) ≡ part (a + n) (e - (a + n)) l
 drop-part l a e n =
     let z : e - a - n ≡ e - (a + n) = omega arith in
     drop-take n (e - a) (drop a l) ∙ ap₂ (λ (x : ℕ) (y : List ℕ). take x y) z (drop-drop n a l)
-
-pub length-part : (l : List ℕ) (a n : ℕ) → a + n ≤ length l → length (part a n l) ≡ n
-length-part l a n h = simp (length-take, length-drop) (omega arith)
 
 -- two bytes, and the first four
 pub part-two : (l : List ℕ) (a : ℕ) → a + 2 ≤ length l → part a 2 l ≡ getD l a 0 ∷ getD l (suc a) 0 ∷ []

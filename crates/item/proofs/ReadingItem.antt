@@ -11,7 +11,7 @@ use Rattle.paper.specs.Checksum.{dataCrc}
 use Rattle.paper.specs.Chip.{roundUp, headerSize, part, put, bufferBy, bufferAfter}
 use Rattle.paper.specs.Scan.{live, present}
 use Rattle.chip.specs.declared.Address.{Address}
-use Rattle.chip.proofs.Rounding.{round-up-ge}
+use Rattle.laws.proofs.Rounding.{round-up-ge}
 use Rattle.item.specs.declared.ItemHeader.{ItemHeader}
 use Rattle.item.specs.declared.Item.{Item}
 use Rattle.item.specs.declared.MaybeItem.the-variants as maybe

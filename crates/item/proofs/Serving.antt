@@ -14,7 +14,7 @@ use Rattle.paper.specs.Refusals.{number, none}
 use Rattle.paper.specs.Calls.{longest}
 use Rattle.chip.specs.Within.{Good}
 use Rattle.chip.specs.declared.Address.{Address}
-use Rattle.chip.proofs.Rounding.{round-down-le, round-up-behind}
+use Rattle.laws.proofs.Rounding.{round-down-le, round-up-behind}
 use Rattle.item.specs.declared.Available.the-variants as room
 use Rattle.item.specs.Places.{after}
 use Rattle.item.specs.Headers.{available, availableAs}

@@ -8,7 +8,8 @@ use Rattle.paper.specs.declared.Geometry.{Geometry}
 use Rattle.paper.specs.Chip.{roundUp, headerSize, part}
 use Rattle.paper.specs.Slip.{stop, bad, item, look}
 use Rattle.paper.specs.Scan.{Head, Walk, onward, walk}
-use Rattle.chip.proofs.Rounding.{round-up-ge}
+use Rattle.laws.proofs.Parts.{part-part, length-part}
+use Rattle.laws.proofs.Rounding.{round-up-ge}
 use Rattle.item.specs.declared.ItemHeader.{ItemHeader}
 use Rattle.item.specs.declared.MaybeHeader.{MaybeHeader}
 use Rattle.item.specs.declared.MaybeHeader.the-variants as header
@@ -16,7 +17,7 @@ use Rattle.item.specs.Places.{after, Inside}
 use Rattle.item.specs.Headers.{lookAs, HeaderIs}
 use Rattle.item.specs.Reading.{headAt}
 use Rattle.item.specs.Scanning.{walkFrom}
-use Rattle.item.proofs.Parts.{part-part, drop-part, length-part}
+use Rattle.item.proofs.Parts.{drop-part}
 use Rattle.item.proofs.Looking.{bad-in, item-in}
 
 -- ---- the paper's walk, from bytes d at address a
@@ -87,7 +88,7 @@ inside-on h l = record { good = h .good; order = l; ends = h .ends }
 module _ {g : Geometry} (im : List ℕ) {a e : ℕ} (inside : Inside g (length im) a e) (r : MaybeHeader)
     (h : HeaderIs g (part a (e - a) im) r) where
   size : length (part a (e - a) im) ≡ e - a
-  size = length-part im a (e - a) (omega arith)
+  size = length-part a (e - a) im (omega arith)
 
   told : (x : MaybeHeader) → r ≡ x → look g (part a (e - a) im) ≡ lookAs g (part a (e - a) im) x
   told x q = sym h ∙ ap (lookAs g (part a (e - a) im)) q
@@ -124,7 +125,7 @@ module _ {g : Geometry} (im : List ℕ) {a e : ℕ} (inside : Inside g (length i
       let w : walk g 0 (a + m) (drop m (part a (e - a) im)) ≡ walkFrom g im e b =
       ap (walk g 0 (a + m)) (drop-part im a e m) ∙ ap (walkFrom g im e) u in
       let y : part (headerSize g) (x .length) (part a (e - a) im) ≡ part (a + headerSize g) (x .length) im =
-      part-part im a (e - a) (headerSize g) (x .length) (omega (arith, size, round-up-ge (g .word) (x .length) (omega arith))) in
+      part-part a (e - a) (headerSize g) (x .length) im (omega (arith, size, round-up-ge (g .word) (x .length) (omega arith))) in
       record {
         past = omega arith;
         fits = omega (arith, size);

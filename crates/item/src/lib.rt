@@ -17,6 +17,7 @@ ghost use Rattle.item.specs.Reading.{itemOf, ReadIs};
 ghost use Rattle.item.specs.Scanning.{walkFrom, NextIs, FreeIs, PageFree, SpotIs};
 use chip::Address;
 use chip::Budget;
+use chip::MAX_WORD_SIZE;
 use chip::Page;
 use chip::Spent;
 use paper::Geometry;
@@ -75,8 +76,8 @@ pub enum Available {
     Nothing,
 }
 
-// Eight bytes, rounded up to a word of at most 32.
-const MAX_HEADER_SIZE: usize = 32;
+// Eight bytes, rounded up to a word.
+const MAX_HEADER_SIZE: usize = MAX_WORD_SIZE;
 
 // ---- bytes
 

@@ -1,7 +1,5 @@
-pub mod Parts
 pub mod Marks
 pub mod Tables
 pub mod Rings
 pub mod Searching
-pub mod Changes
 pub mod Repairs

@@ -2,19 +2,20 @@
 use mathlib.Core.Path.{_≡_, refl}
 use mathlib.Core.Bool.{Bool, true, false, cond}
 use mathlib.Core.List.{List, [], _∷_, _++_, append-nil}
-use Prim.Native.Nat.{ℕ, _<_}
-use lib.ListN.{length}
+use Prim.Native.Nat.{ℕ, _*_, _≤_, _<_}
+use native.Mathlib.Omega.{arith}
+use lib.ListN.{length, replicate, length-replicate}
 use Rattle.paper.specs.declared.Geometry.{Geometry}
 use Rattle.paper.specs.declared.PageState.{PageState}
 use Rattle.paper.specs.declared.PageState.the-variants.{Corrupted}
-use Rattle.paper.specs.Chip.{erasePage, imageAfter}
+use Rattle.paper.specs.Chip.{erasePage, imageBy, imageAfter, pageStart, put}
 use Rattle.paper.specs.Pages.{state, same, repairs}
+use Rattle.laws.proofs.PageBytes.{state-same, put-elsewhere}
 use Rattle.chip.specs.declared.Budget.{Budget}
 use Rattle.chip.specs.declared.Spent.{Spent}
 use Rattle.chip.specs.Within.{Within}
 use Rattle.chip.specs.Run.{Did}
 use Rattle.chip.proofs.Running.{did-then, did-cut}
-use Rattle.page.proofs.Changes.{erase-elsewhere}
 
 pub repairs-none : (g : Geometry) (im : List ℕ) → repairs g im [] ≡ []
 unfolding repairs
@@ -52,11 +53,22 @@ module _ {g : Geometry} {b : Budget} {i o : List ℕ} {r : Spent} (im : List ℕ
   pub repairs-on : {m : List ℕ} {q : Spent} → r .cut ≡ false → Did g (r .budget) (repairs g im ps) o m q → Did g b (repairs g im (p ∷ ps)) i m q
   repairs-on t f = rw (repairs-cons g im p ps, ← repairs-same g i im p e) (did-then d t f)
 
+-- ---- another page's turn
+
+erase-elsewhere : (g : Geometry) (im : List ℕ) → Within g (length im) → (p q : ℕ) → p < g .pages → q < g .pages → (q ≡ p → ⊥)
+    → state g (imageAfter g (erasePage g p) im) q ≡ state g im q
+unfolding erasePage imageAfter imageBy
+erase-elsewhere g im w p q hp hq n =
+    let ff : List ℕ = replicate (g .page) 0xff in
+    let marks : 2 * g .word ≤ g .page = omega (arith, w .good .room) in
+    state-same g marks (put (pageStart g p) ff im) im q
+    (put-elsewhere g im (w .ends) p (pageStart g p) ff hp (omega arith) (omega (arith, length-replicate {A = ℕ} (g .page) 0xff)) q hq n)
+
 pub repairs-elsewhere : (g : Geometry) (im : List ℕ) → Within g (length im) → (p q : ℕ) → p < g .pages → q < g .pages → (q ≡ p → ⊥)
     → state g (imageAfter g (repairs g im (p ∷ [])) im) q ≡ state g im q
 unfolding imageAfter
 repairs-elsewhere g im w p q hp hq n = go (same (state g im p) Corrupted) refl
   where
     go : (t : Bool) → same (state g im p) Corrupted ≡ t → state g (imageAfter g (repairs g im (p ∷ [])) im) q ≡ state g im q
-    go true t = rw (repairs-page g im p (state g im p) refl t) (erase-elsewhere g im w p hp q hq n)
+    go true t = rw (repairs-page g im p (state g im p) refl t) (erase-elsewhere g im w p q hp hq n)
     go false t = rw (repairs-pass g im p (state g im p) refl t)

@@ -15,6 +15,8 @@ ghost use Rattle.page.specs.Table.{Table};
 ghost use Rattle.page.specs.Searches.{soughtAs, chosenAs, Sees};
 use chip::Address;
 use chip::Budget;
+use chip::MAX_PAGES;
+use chip::MAX_WORD_SIZE;
 use chip::Page;
 use chip::Spent;
 use paper::Geometry;
@@ -37,10 +39,6 @@ pub enum Chosen {
 const MARKER: u8 = 0;
 // Half a byte of zeros will do, so that a flipped bit neither sets a mark nor undoes one.
 const HALF_MARKER_BITS: u32 = 4;
-// The longest word that the check of a geometry lets through ..
-const MAX_WORD_SIZE: usize = 32;
-// .. and the most pages.
-const MAX_PAGES: usize = 64;
 
 // ---- repair
 

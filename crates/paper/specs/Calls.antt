@@ -9,7 +9,7 @@ use Rattle.paper.specs.declared.Refusal.the-variants as refusal
 use Rattle.paper.specs.Checksum.{dataCrc}
 use Rattle.paper.specs.Chip.{Geometry, roundUp, roundDown, headerSize, dataStart, dataSize, Event, copy, storeCount, before, writes, erasePage, Plan, plan, bind, andThen, Try, fails, gives, onGiven, settled}
 use Rattle.paper.specs.Slip.{encode}
-use Rattle.paper.specs.Scan.{Head, Walk, pageWalk, freeSpot, serves, live, present, anyLive}
+use Rattle.paper.specs.Scan.{Head, pageWalk, freeSpot, serves, live, present, anyLive}
 use Rattle.paper.specs.Pages.{PageState, Open, PartialOpen, Closed, Corrupted, state, same, setStart, setEnd, next, allPages, youngest, oldest, repair}
 use Rattle.paper.specs.Refusals.{Checked, Accepted, Refused, check, lengthLimit, Answer, done, shown, number, none, empty, refused}
 

@@ -3,14 +3,14 @@ use mathlib.Core.Path.{_≡_}
 use mathlib.Core.Bool.{Bool, true, false, cond, _&&_}
 use mathlib.Core.List.{List, [], _∷_, _++_, tail, List·Memᴰ}
 use mathlib.Core.Logic.{_⊎_}
-use Prim.Native.Nat.{ℕ, zero, suc, _+_, _-_, _≤_, _<_}
+use Prim.Native.Nat.{ℕ, suc, _+_, _-_, _≤_, _<_}
 use lib.Dec.{leb, ltb}
 use lib.ListN.{length, take, replicate}
 use Rattle.paper.specs.declared.Shape.{Shape}
 use Rattle.paper.specs.declared.Refusal.the-variants as refusal
 use Rattle.paper.specs.Checksum.{dataCrc}
 use Rattle.paper.specs.Chip.{Geometry, headerSize, wordsFor, pageStart, pageBytes, part, Event, store, erase, copy, imageAfter, bufferAfter, storeCount, before, Plan, plan, Try, fails, gives}
-use Rattle.paper.specs.Scan.{Head, Walk, pageWalk, serves, anyLive}
+use Rattle.paper.specs.Scan.{Head, pageWalk, serves, anyLive}
 use Rattle.paper.specs.Pages.{Closed, state, next, allPages, youngest}
 use Rattle.paper.specs.Refusals.{Accepted, check, Answer, done, shown, number, none, empty, refused}
 use Rattle.paper.specs.Calls.{Spot, full, at, tooBig, spotFor, push, peek, pop, findMaxFit, spaceLeft, eraseAll}

@@ -4,7 +4,7 @@ use mathlib.Core.List.{List, [], _∷_, _++_}
 use Prim.Native.Nat.{ℕ}
 use lib.Dec.{eqb}
 use Rattle.paper.specs.Chip.{Geometry, Try, fails, gives}
-use Rattle.paper.specs.Scan.{Walk, pageWalk, payloads}
+use Rattle.paper.specs.Scan.{pageWalk, payloads}
 use Rattle.paper.specs.Pages.{Open, state, same, next, from, youngest, oldest}
 
 -- the payloads of the present items of pages, in order, up to page y, "ending before any Open page"

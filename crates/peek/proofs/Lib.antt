@@ -1,4 +1,3 @@
-pub mod Answering
 pub mod ReadingItems
 pub mod Turning
 pub mod Leaving

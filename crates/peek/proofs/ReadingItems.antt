@@ -15,7 +15,7 @@ use Rattle.chip.specs.declared.Budget.{Budget}
 use Rattle.chip.specs.Within.{Within}
 use Rattle.chip.specs.Run.{Acted}
 use Rattle.chip.proofs.Running.{acted-copies}
-use Rattle.chip.proofs.Binding.{showed-none, showed-plan, showed-and-then}
+use Rattle.chip.proofs.Binding.{showed-none, showed-plan, showed-and-then, showed-turned}
 use Rattle.item.specs.declared.Item.{Item}
 use Rattle.item.specs.declared.MaybeItem.{MaybeItem}
 use Rattle.item.specs.declared.MaybeItem.the-variants as maybe
@@ -27,7 +27,6 @@ use Rattle.item.proofs.ReadingHeads.{readOn, read-on, read-lives}
 use Rattle.peek.specs.Turns.{afterItems, readTurn}
 use Rattle.peek.specs.Meanings.{headOf, ItemIn}
 use Rattle.peek.specs.Searching.{Copied}
-use Rattle.peek.proofs.Answering.{showed-turned}
 
 -- ---- one item
 

@@ -15,9 +15,8 @@ use Rattle.paper.specs.Calls.{Met, passed, long, met, readHeads, Stand, onPage,
 use Rattle.chip.specs.declared.Budget.{Budget}
 use Rattle.chip.specs.declared.Spent.{Spent}
 use Rattle.chip.specs.Run.{Showed}
-use Rattle.chip.proofs.Binding.{showed-none, showed-bind-cut, showed-bind-then}
+use Rattle.chip.proofs.Binding.{showed-none, showed-bind-cut, showed-bind-then, bind-turned, showed-kept}
 use Rattle.peek.specs.Turns.{Going, goes, ends, afterItems, readTurn, leaveTurn, turnFrom, onGoing}
-use Rattle.peek.proofs.Answering.{bind-turned, showed-kept}
 
 -- ---- the paper's search, by turns
 

@@ -1,3 +1,2 @@
-pub mod Ending
 pub mod Sizes
 pub mod Spots

@@ -2,6 +2,7 @@
 use mathlib.Core.Path.{_≡_, refl, sym, _∙_}
 use mathlib.Core.Bool.{Bool, true, false, false≢true}
 use Prim.Native.Nat.{ℕ, _+_, _≤_, _<_}
+use native.Mathlib.Nat.{dvd-of-mod-eq-zero}
 use native.Mathlib.Omega.{arith}
 use borrow.Author.Tests.{ltb-true, ltb-false, lt-ltb, le-ltb}
 use lib.Dec.{ltb}
@@ -9,8 +10,9 @@ use Rattle.paper.specs.declared.Geometry.{Geometry}
 use Rattle.paper.specs.Chip.{headerSize, pageStart, dataStart, dataSize}
 use Rattle.paper.specs.Refusals.{lengthLimit}
 use Rattle.paper.specs.Calls.{tooBig}
+use Rattle.laws.proofs.Places.{page-in, data-whole}
 use Rattle.chip.specs.Within.{Within}
-use Rattle.chip.proofs.Geometry.{page-in, data-in, data-whole, item-fits}
+use Rattle.chip.proofs.Geometry.{data-in, item-fits}
 use Rattle.item.specs.Places.{after}
 
 module _ (g : Geometry) (n : ℕ) where
@@ -37,6 +39,6 @@ module _ (g : Geometry) (n : ℕ) where
     pub fresh-in : {m p : ℕ} → Within g m → p < g .pages → after g (dataStart g p) n ≤ pageStart g (g .pages)
     fresh-in {m} {p} w h =
         let d = data-in g p m w h in
-        let q = data-whole g (w .good) in
+        let q = data-whole g (dvd-of-mod-eq-zero (g .word) (w .good .whole)) in
         let f = item-fits g n (dataSize g) (w .good) (omega (arith, small-data)) in
         omega (arith, page-in g p h)

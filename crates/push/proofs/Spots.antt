@@ -13,18 +13,19 @@ use Rattle.paper.specs.Chip.{pageStart, dataStart, dataEnd, Plan, Try, gives}
 use Rattle.paper.specs.Scan.{pageWalk, freeSpot, anyLive}
 use Rattle.paper.specs.Pages.{state, next}
 use Rattle.paper.specs.Calls.{Spot, at, tooBig, takePage, turnPage, findSpot}
+use Rattle.laws.proofs.Places.{page-in}
 use Rattle.chip.specs.declared.Address.{Address}
 use Rattle.chip.specs.declared.Budget.{Budget}
 use Rattle.chip.specs.Run.{Ran}
 use Rattle.chip.specs.Within.{Within}
-use Rattle.chip.proofs.Geometry.{page-in, data-in}
+use Rattle.chip.proofs.Geometry.{data-in}
 use Rattle.chip.proofs.Binding.{ran-none}
 use Rattle.item.specs.declared.Spot as onPage
 use Rattle.item.specs.declared.Spot.the-variants as spot
 use Rattle.item.specs.Places.{after, Room}
 use Rattle.item.specs.Scanning.{Served, SpotIs}
 use Rattle.item.proofs.Serving.{served-inside}
-use Rattle.page.proofs.Rings.{next-in}
+use Rattle.laws.proofs.Ring.{next-in}
 use Rattle.push.specs.declared.Tried.{Tried}
 use Rattle.push.specs.declared.Tried.the-variants as tried
 use Rattle.push.specs.declared.Trying.{Trying}

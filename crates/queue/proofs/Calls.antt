@@ -13,12 +13,12 @@ use Rattle.paper.specs.declared.Checked.the-variants.{Accepted, Refused}
 use Rattle.paper.specs.Chip.{Plan, plan}
 use Rattle.paper.specs.Refusals.{Answer, refused, geometryOf}
 use Rattle.paper.specs.Calls.{Request, call, planFor, requested}
+use Rattle.laws.proofs.Accepted.{accepted-is}
 use Rattle.chip.specs.declared.Budget.{Budget}
 use Rattle.chip.specs.declared.Spent.{Spent}
 use Rattle.chip.specs.Within.{Checks}
 use Rattle.chip.specs.Run.{Ran, Showed, WholeShown}
 use Rattle.chip.proofs.Binding.{showed-of, showed-none}
-use Rattle.chip.proofs.Checking.{accepted-is}
 use Rattle.chip.proofs.Limiting.{showed-whole, free-uncut, showed-limited-cut, showed-limited-done}
 use Rattle.queue.specs.Promises.{under, AnswersUnder, ShowsUnder}
 
@@ -61,10 +61,10 @@ module _ (s : Shape) (im : List ℕ) (c : Request) {k : Checked} (h : Checks (le
 
   module _ {g : Geometry} {b : Budget} {o : List ℕ} {r : Spent} {x : Answer} (q : k ≡ Accepted g) where
     pub shows-cut : {d e : List ℕ} → Showed g b (planFor g im c) im o d e r x → r .cut ≡ true → ShowsUnder b s c im o d e (refused refusal.Cut)
-    shows-cut v t = rw (accepted-as g q, ← accepted-is (length im) s g (sym (h .answer) ∙ q)) (under-cut b (planFor g im c) v t)
+    shows-cut v t = rw (accepted-as g q, accepted-is (length im) s g (sym (h .answer) ∙ q)) (under-cut b (planFor g im c) v t)
 
     pub shows-done : {d e : List ℕ} → Showed g b (planFor g im c) im o d e r x → r .cut ≡ false → ShowsUnder b s c im o d e x
-    shows-done v t = rw (accepted-as g q, ← accepted-is (length im) s g (sym (h .answer) ∙ q)) (under-done b (planFor g im c) v t)
+    shows-done v t = rw (accepted-as g q, accepted-is (length im) s g (sym (h .answer) ∙ q)) (under-done b (planFor g im c) v t)
 
     pub answers-cut : Ran g b (planFor g im c) im o r x → r .cut ≡ true → AnswersUnder b s c im o (refused refusal.Cut)
     answers-cut v t = shows-cut (showed-of [] v) t .whole

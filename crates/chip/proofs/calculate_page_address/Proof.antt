@@ -2,7 +2,7 @@
 use native.Mathlib.Omega.{arith}
 use mathlib.Core.Path.{refl}
 use Rattle.paper.specs.Chip.{pageStart}
-use Rattle.chip.proofs.Geometry.{page-in}
+use Rattle.laws.proofs.Places.{page-in}
 use Rattle.chip.proofs.calculate_page_address.Statement.{statement}
 use Rattle.chip.proofs.calculate_page_address.Tie as tie
 

@@ -1,8 +1,8 @@
 -- `chip::calculate_page_end_address` meets its contract. Assumes nothing.
 use native.Mathlib.Omega.{arith}
-use Rattle.chip.proofs.Geometry.{page-in}
 use Rattle.chip.proofs.calculate_page_end_address.Statement.{statement}
 use Rattle.chip.proofs.calculate_page_end_address.Tie as tie
+use Rattle.laws.proofs.Places.{page-in}
 
 calculate-page-address-requires : tie.Need-calculate-page-address-requires
 calculate-page-address-requires c κs = c .pre

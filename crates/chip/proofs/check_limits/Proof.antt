@@ -1,4 +1,6 @@
 -- `chip::check_limits` meets its contract. Assumes nothing.
+use Prim.Native.Nat.{_-_}
+use native.Mathlib.Nat.{div-le-self}
 use native.Mathlib.Omega.{arith}
 use mathlib.Core.Path.{_∙_}
 use mathlib.Core.Logic.{⊎-elim}
@@ -13,6 +15,11 @@ sub-pages c = omega arith
 
 div-pages : tie.Need-div-pages
 div-pages c = omega arith
+
+cast-if2 : tie.Need-cast-if2
+cast-if2 c =
+    let s = c .before .before .before .before .args .s in
+    omega (arith, div-le-self (s .end - s .start) (s .page))
 
 returns : tie.Need-returns
 unfolding rules pageCount
@@ -39,6 +46,7 @@ check-limits-spec =
     (tie.spec
     sub-pages
     div-pages
+    cast-if2
     returns
     cast-if3
     returns-2

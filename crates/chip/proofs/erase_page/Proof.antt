@@ -5,9 +5,9 @@ use Prim.Native.Nat.{_+_, _-_, _≤_}
 use native.Mathlib.Nat.{add-zero, sub-zero}
 use lib.ListN.{length, replicate, length-set}
 use Rattle.paper.specs.Chip.{erase, storeCount, imageBy, put, erasePage}
+use Rattle.laws.proofs.Places.{page-in}
 use Rattle.chip.proofs.Running.{did-paid, did-unpaid}
 use Rattle.chip.proofs.Stores.{erase-step, erase-end}
-use Rattle.chip.proofs.Geometry.{page-in}
 use Rattle.chip.proofs.erase_page.Statement.{statement}
 use Rattle.chip.proofs.erase_page.Tie as tie
 

@@ -1,7 +1,7 @@
 -- `chip::page_data_start_address` meets its contract. Assumes nothing.
 use native.Mathlib.Omega.{arith}
 use Rattle.paper.specs.Chip.{dataStart}
-use Rattle.chip.proofs.Geometry.{page-in}
+use Rattle.laws.proofs.Places.{page-in}
 use Rattle.chip.proofs.page_data_start_address.Statement.{statement}
 use Rattle.chip.proofs.page_data_start_address.Tie as tie
 

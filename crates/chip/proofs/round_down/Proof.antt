@@ -3,7 +3,7 @@ use native.Mathlib.Omega.{arith}
 use mathlib.Core.Path.{refl}
 use native.Mathlib.Nat.{div-mul-le-self}
 use Rattle.paper.specs.Chip.{roundDown}
-use Rattle.chip.proofs.Rounding.{round-down-le}
+use Rattle.laws.proofs.Rounding.{round-down-le}
 use Rattle.chip.proofs.round_down.Statement.{statement}
 use Rattle.chip.proofs.round_down.Tie as tie
 

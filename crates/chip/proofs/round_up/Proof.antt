@@ -4,7 +4,7 @@ use mathlib.Core.Path.{refl}
 use Prim.Native.Nat.{_+_, _-_}
 use native.Mathlib.Nat.{div-mul-le-self}
 use Rattle.paper.specs.Chip.{roundUp, wordsFor}
-use Rattle.chip.proofs.Rounding.{round-up-ge, round-up-lt}
+use Rattle.laws.proofs.Rounding.{round-up-ge, round-up-lt}
 use Rattle.chip.proofs.round_up.Statement.{statement}
 use Rattle.chip.proofs.round_up.Tie as tie
 

@@ -6,11 +6,12 @@ use Prim.Native.Nat.{ℕ, _+_, _-_, _≤_, _<_}
 use native.Mathlib.Nat.{sub-zero}
 use lib.ListN.{length, take, drop}
 use Rattle.paper.specs.Chip.{roundUp, writes}
+use Rattle.laws.proofs.Parts.{length-padded}
 use Rattle.chip.specs.declared.Spent.{Spent}
 use Rattle.chip.specs.Run.{Did}
 use Rattle.chip.proofs.Running.{did-none}
-use Rattle.chip.proofs.Writing.{length-padded, writes-end, write-cut, write-on}
-use Rattle.chip.proofs.Rounding.{round-up-step}
+use Rattle.chip.proofs.Writing.{writes-end, write-cut, write-on}
+use Rattle.laws.proofs.Rounding.{round-up-step}
 use Rattle.chip.proofs.write.Statement.{statement}
 use Rattle.chip.proofs.write.Tie as tie
 

@@ -2,7 +2,7 @@
 use borrow.Author.Needs.{needs}
 use native.Mathlib.Omega.{arith}
 use mathlib.Core.Path.{sym}
-use Rattle.page.proofs.Rings.{next-round, next-on}
+use Rattle.laws.proofs.Ring.{next-round, next-on}
 use Rattle.page.proofs.next_page.Statement.{statement}
 use Rattle.page.proofs.next_page.Tie as tie
 

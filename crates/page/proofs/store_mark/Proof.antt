@@ -2,9 +2,9 @@
 use borrow.Author.Needs.{needs}
 use mathlib.Core.Path.{sym, ap, _∙_}
 use lib.ListN.{length, length-replicate}
-use Rattle.chip.proofs.Writing.{take-replicate}
 use Rattle.page.proofs.store_mark.Statement.{statement}
 use Rattle.page.proofs.store_mark.Tie as tie
+use Rattle.laws.proofs.Parts.{take-replicate}
 
 cast-w : tie.Need-cast-w
 cast-w c = search needs

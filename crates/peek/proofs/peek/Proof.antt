@@ -2,7 +2,7 @@
 use borrow.Author.Needs.{needs}
 use Rattle.paper.specs.Calls.{shownBy}
 use Rattle.paper.specs.Calls as calls
-use Rattle.peek.proofs.Answering.{showed-turned}
+use Rattle.chip.proofs.Binding.{showed-turned}
 use Rattle.peek.proofs.peek.Statement.{statement}
 use Rattle.peek.proofs.peek.Tie as tie
 

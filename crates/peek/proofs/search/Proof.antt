@@ -4,9 +4,8 @@ use mathlib.Core.Path.{ap}
 use Rattle.paper.specs.Chip.{settled}
 use Rattle.paper.specs.Calls.{searchOn, spoilt}
 use Rattle.paper.specs.Calls as calls
-use Rattle.chip.proofs.Binding.{showed-bind-cut, showed-bind-then}
+use Rattle.chip.proofs.Binding.{showed-bind-cut, showed-bind-then, showed-turned, showed-kept}
 use Rattle.page.specs.Searches.{chosenAs}
-use Rattle.peek.proofs.Answering.{showed-turned, showed-kept}
 use Rattle.peek.proofs.search.Statement.{statement}
 use Rattle.peek.proofs.search.Tie as tie
 

@@ -2,8 +2,7 @@
 use borrow.Author.Needs.{needs}
 use Rattle.paper.specs.Refusals.{done}
 use Rattle.paper.specs.Calls.{at, pushAt}
-use Rattle.chip.proofs.Binding.{ran-plan, bind-cut, bind-then}
-use Rattle.push.proofs.Ending.{bind-ends}
+use Rattle.chip.proofs.Binding.{ran-plan, bind-cut, bind-then, bind-ends}
 use Rattle.push.proofs.Sizes.{small-length}
 use Rattle.push.proofs.Spots.{holds-room}
 use Rattle.push.proofs.push_inner.Statement.{statement}

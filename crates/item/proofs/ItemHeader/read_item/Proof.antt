@@ -8,7 +8,7 @@ use Rattle.paper.specs.Checksum.{dataCrc}
 use Rattle.paper.specs.Chip.{put}
 use Rattle.checksum.proofs.Answers.{data-is}
 use Rattle.item.specs.declared.Item.{Item}
-use Rattle.item.proofs.Parts.{length-part}
+use Rattle.laws.proofs.Parts.{length-part}
 use Rattle.item.proofs.ReadingItem.{payload-in, lent, read-popped, read-small, read-present, read-torn}
 use Rattle.item.proofs.ItemHeader.read_item.Statement.{statement}
 use Rattle.item.proofs.ItemHeader.read_item.Tie as tie
@@ -47,7 +47,7 @@ copy-to-front-requires : tie.Need-copy-to-front-requires
 copy-to-front-requires c κs =
     let n = ap (λ (x : Item). x .size) (c .before .before .before .before .before .before .before .before .item .ensures) in
     let z : c .before .before .before .data-address .result .0 + c .before .before .before .before .before .before .before .before .item .result .size - c .before .before .before .data-address .result .0 ≡ c .before .before .before .before .before .before .before .before .item .result .size = omega arith in
-    rw z (omega (arith, length-part (c .before .before .before .before .before .before .before .before .before .before .before .args .image .now) (c .before .before .before .data-address .result .0) (c .before .before .before .before .before .before .before .before .item .result .size) (omega (arith, payload-in (c .before .before .before .before .before .before .before .before .before .before .before .pre) (c .before .before .before .data-address .ensures) n))))
+    rw z (omega (arith, length-part (c .before .before .before .data-address .result .0) (c .before .before .before .before .before .before .before .before .item .result .size) (c .before .before .before .before .before .before .before .before .before .before .before .args .image .now) (omega (arith, payload-in (c .before .before .before .before .before .before .before .before .before .before .before .pre) (c .before .before .before .data-address .ensures) n))))
 
 add-end : tie.Need-add-end
 add-end c = omega (arith, payload-in (c .before .before .before .before .before .before .before .before .before .before .before .before .before .before .pre) (c .before .before .before .before .before .before .data-address .ensures) (ap (λ (x : Item). x .size) (c .before .before .before .before .before .before .before .before .before .before .before .item .ensures)))

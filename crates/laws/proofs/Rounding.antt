@@ -3,7 +3,7 @@ use mathlib.Core.Path.{_≡_, refl, sym, ap, ap₂, _∙_}
 use mathlib.Core.Bool.{Bool, true, false}
 use Prim.Native.Nat.{ℕ, suc, _+_, _-_, _*_, _/_, _≤_, _<_}
 use native.Mathlib.Numerals.{add-one}
-use native.Mathlib.Nat.{zero-mul, suc-mul, mul-comm, mul-sub, mul-le-mul-right, add-div-right, div-eq-of-lt, mul-div-cancel, div-mul-le-self, lt-div-mul-add, div-lt-iff-lt-mul}
+use native.Mathlib.Nat.{suc-mul, mul-comm, mul-sub, mul-le-mul-right, add-div-right, div-eq-of-lt, div-mul-le-self, lt-div-mul-add, div-lt-iff-lt-mul}
 use native.Mathlib.Omega.{arith}
 use borrow.Author.Tests.{leb-true, leb-false}
 use lib.Dec.{leb}
@@ -36,10 +36,6 @@ words-step w n h p = go (leb w n) refl
         let y : (w - 1) / w ≡ 0 = div-eq-of-lt (omega arith) in
         rw (e, z) (add-div-right (n - 1) h ∙ add-one ((n - 1) / w) ∙ ap suc (x ∙ sym y))
 
-pub round-up-none : (w : ℕ) → 0 < w → roundUp w 0 ≡ 0
-unfolding roundUp
-round-up-none w h = rw (words-none w h) (zero-mul w)
-
 pub round-up-step : (w n : ℕ) → 0 < w → 0 < n → roundUp w n ≡ w + roundUp w (n - w)
 unfolding roundUp
 round-up-step w n h p = rw (words-step w n h p) (omega (arith, suc-mul (wordsFor w (n - w)) w))
@@ -61,10 +57,6 @@ round-up-fits w n m h l =
     let q : (n + (w - 1)) / w < suc m = div-lt-iff-lt-mul h .1 (omega (arith, suc-mul m w)) in
     mul-le-mul-right {m = (n + (w - 1)) / w} {n = m} w (omega arith)
 
-pub round-up-mono : (w m n : ℕ) → 0 < w → m ≤ n → roundUp w m ≤ roundUp w n
-unfolding roundUp
-round-up-mono w m n h l = round-up-fits w m (wordsFor w n) h (omega (arith, round-up-ge w n h))
-
 pub round-up-whole : (w m : ℕ) → 0 < w → roundUp w (m * w) ≡ m * w
 round-up-whole w m h = omega (arith, round-up-ge w (m * w) h, round-up-fits w (m * w) m h (omega arith))
 
@@ -81,10 +73,6 @@ round-down-le w n = div-mul-le-self n w
 pub round-down-gt : (w n : ℕ) → 0 < w → n < roundDown w n + w
 unfolding roundDown
 round-down-gt w n h = lt-div-mul-add {a = n} h
-
-pub round-down-whole : (w m : ℕ) → 0 < w → roundDown w (m * w) ≡ m * w
-unfolding roundDown
-round-down-whole w m h = ap (λ (x : ℕ). x * w) (mul-div-cancel m h)
 
 -- ---- both
 

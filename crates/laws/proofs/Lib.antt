@@ -1,0 +1,11 @@
+pub mod Sides
+pub mod Parts
+pub mod Puts
+pub mod Ands
+pub mod Marks
+pub mod Events
+pub mod Rounding
+pub mod Places
+pub mod PageBytes
+pub mod Ring
+pub mod Accepted
