@@ -39,6 +39,8 @@ pub enum Chosen {
 const MARKER: u8 = 0;
 // Half a byte of zeros will do, so that a flipped bit neither sets a mark nor undoes one.
 const HALF_MARKER_BITS: u32 = 4;
+// A byte that nothing was stored in: it has no zero bits to count.
+const ERASED: u8 = 0xff;
 
 // ---- repair
 
@@ -144,6 +146,7 @@ pub fn get_page_state(image: &[u8], g: Geometry, p: Page) -> PageState
     discovered_state(start_marked, end_marked)
 }
 
+// Four zero bits decide, so a mark that was stored is known by its first byte. An erased one is FF to its end: FF is passed uncounted.
 fn is_marked(image: &[u8], g: Geometry, at: Address) -> bool
     requires { ⌜ Good g × (at .0 + g .word ≤ length (now image)) ⌝ }
     ensures { λ r. ⌜ r ≡ isSet (part (at .0) (g .word) (now (image .entry))) ⌝ }
@@ -153,10 +156,16 @@ fn is_marked(image: &[u8], g: Geometry, at: Address) -> bool
     let mut n: u32 = 0;
     let mut i = 0;
     while i < w {
-        n += zero_bits(image[a + i]);
+        let b = image[a + i];
+        if b != ERASED {
+            n += zero_bits(b);
+            if HALF_MARKER_BITS <= n {
+                return true;
+            }
+        }
         i += 1;
     }
-    HALF_MARKER_BITS <= n
+    false
 }
 
 fn zero_bits(byte: u8) -> u32

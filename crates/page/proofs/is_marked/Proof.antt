@@ -1,19 +1,21 @@
--- `page::is_marked` meets its contract. The invariant: the zero bits counted so far and those of the bytes left are the mark's. Assumes
--- nothing.
+-- `page::is_marked` meets its contract. The invariant: the zero bits counted so far are fewer than four, and with those of the bytes left
+-- they are the mark's. Assumes nothing.
 use borrow.Author.Needs.{needs}
 use native.Mathlib.Omega.{arith}
-use mathlib.Core.Path.{_≡_, ap}
-use Prim.Native.Nat.{_+_, _-_, _*_, _≤_}
+use mathlib.Core.Path.{_≡_, sym}
+use mathlib.Core.Logic.{⊎-elim}
+use Prim.Native.Nat.{_+_, _-_, _≤_, _<_}
 use native.Mathlib.Nat.{add-zero, sub-zero}
-use lib.Dec.{leb}
+use lib.Count.{ones-ones}
 use Rattle.paper.specs.Chip.{part}
-use Rattle.paper.specs.Pages.{zeroBits, isSet}
+use Rattle.paper.specs.Pages.{zeroBits}
+use Rattle.laws.proofs.Marks.{four-set, few-unset}
 use Rattle.page.proofs.Marks.{zeros-none, zeros-step}
 use Rattle.page.proofs.is_marked.Statement.{statement}
 use Rattle.page.proofs.is_marked.Tie as tie
 
 abbrev Inv-loop : tie.InvT-loop
-Inv-loop image a w n₀ i₀ n i = (i ≤ w) × (n ≤ 8 * i) × (n + zeroBits (part (a + i) (w - i) image) ≡ zeroBits (part a w image))
+Inv-loop image a w n₀ i₀ n i = (i ≤ w) × (n < 4) × (n + zeroBits (part (a + i) (w - i) image) ≡ zeroBits (part a w image))
 
 abbrev μ-loop : tie.MeasureT-loop
 μ-loop image a w n₀ i₀ n i = w - i
@@ -27,17 +29,24 @@ cast-w c = search needs
 loop-holds : tie.Need-loop-holds Inv-loop μ-loop
 loop-holds c = (omega arith, omega arith, (rw (add-zero, sub-zero) (omega arith)))
 
-add-zero-bits : tie.Need-add-zero-bits Inv-loop μ-loop
-add-zero-bits c = omega (arith, c .before .before .before .before .before .pre .0 .high)
+add-b : tie.Need-add-b Inv-loop μ-loop
+add-b c = omega (arith, c .before .before .before .before .before .pre .0 .high)
 
-shared-slice-read-zero-bits : tie.Need-shared-slice-read-zero-bits Inv-loop μ-loop
-shared-slice-read-zero-bits c = omega (arith, c .before .before .before .before .before .before .pre .0 .high)
+shared-slice-read-b : tie.Need-shared-slice-read-b Inv-loop μ-loop
+shared-slice-read-b c = omega (arith, c .before .before .before .before .before .before .pre .0 .high)
 
 zero-bits-requires : tie.Need-zero-bits-requires Inv-loop μ-loop
 zero-bits-requires c κs = search needs
 
 add-n : tie.Need-add-n Inv-loop μ-loop
-add-n c = omega (arith, c .before .before .before .before .before .before .before .pre .0 .high)
+add-n c = omega arith
+
+returns : tie.Need-returns Inv-loop μ-loop
+returns c =
+    let l = c .before .before .before .before .before .loop in
+    let a = c .before .before .before .before .before .before .before .before .before .args in
+    let s = zeros-step (a .image .now) (a .at .0 + l .i) (a .g .word - l .i) (omega arith) (omega arith) in
+    sym (four-set (part (a .at .0) (a .g .word) (a .image .now)) (omega (arith, s)))
 
 add-i : tie.Need-add-i Inv-loop μ-loop
 add-i c = omega (arith, c .before .before .before .before .before .before .before .pre .0 .high)
@@ -48,21 +57,21 @@ loop-less c = omega (arith, c .before .before .before .before .before .before .b
 loop-again : tie.Need-loop-again Inv-loop μ-loop
 loop-again c =
     let l = c .before .before .before .loop in
-    let im = c .before .before .before .before .before .before .before .args .image .now in
-    let a = c .before .before .before .before .before .before .before .args .at .0 in
-    let w = c .before .before .before .before .before .before .before .args .g .word in
-    let e : w - l .i - 1 ≡ w - (l .i + 1) = omega arith in
-    let f : a + l .i + 1 ≡ a + (l .i + 1) = omega arith in
-    omega (arith, rw (e, f) at (zeros-step im (a + l .i) (w - l .i) (omega arith) (omega arith)))
+    let a = c .before .before .before .before .before .before .before .args in
+    let e : a .g .word - l .i - 1 ≡ a .g .word - (l .i + 1) = omega arith in
+    let f : a .at .0 + l .i + 1 ≡ a .at .0 + (l .i + 1) = omega arith in
+    let s = rw (e, f) at (zeros-step (a .image .now) (a .at .0 + l .i) (a .g .word - l .i) (omega arith) (omega arith)) in
+    ⊎-elim
+    (λ w. (omega arith, omega (arith, w .2 .left, w .3), omega (arith, s, w .1 .ensures .0, w .3)))
+    (λ w. (omega arith, omega (arith, w .1), omega (arith, rw (w .0 .left) at s, ones-ones 8, w .1)))
+    (c .if1 .came)
 
-returns : tie.Need-returns Inv-loop μ-loop
-unfolding isSet
-returns c =
+returns-2 : tie.Need-returns-2 Inv-loop μ-loop
+returns-2 c =
     let l = c .before .loop in
     let a = c .before .before .before .before .before .args in
     let z : a .g .word - l .i ≡ 0 = omega arith in
-    let e : l .n ≡ zeroBits (part (a .at .0) (a .g .word) (a .image .now)) = omega (arith, zeros-none, rw z at (l .inv .2)) in
-    ap (leb 4) e
+    sym (few-unset (part (a .at .0) (a .g .word) (a .image .now)) (omega (arith, zeros-none, rw z at (l .inv .2))))
 
 pub is-marked-spec : {M : Type 1} → statement M
 is-marked-spec =
@@ -73,11 +82,12 @@ is-marked-spec =
     cast-a
     cast-w
     loop-holds
-    add-zero-bits
-    shared-slice-read-zero-bits
+    add-b
+    shared-slice-read-b
     zero-bits-requires
     add-n
+    returns
     add-i
     loop-less
     loop-again
-    returns)
+    returns-2)
