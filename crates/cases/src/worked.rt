@@ -43,25 +43,13 @@ fn end_line() {
     io::write_all(STDOUT_FILENO, b"\n");
 }
 
+// A code has the row in its low 32 bits. BufferTooSmall is the one refusal with a value, which stands above.
 fn refusal_line(refusal: Refusal) {
-    match refusal {
-        Refusal::ItemTooBig => number(2),
-        Refusal::FullStorage => number(3),
-        Refusal::BufferTooSmall(n) => {
-            number(4);
-            number(n);
-        }
-        Refusal::Corrupted => number(5),
-        Refusal::Cut => number(7),
-        Refusal::BadGeometry => number(9),
-        Refusal::StartRangeNotAtPageBoundary => number(10),
-        Refusal::EndRangeNotAtPageBoundary => number(11),
-        Refusal::RangeTooSmall => number(12),
-        Refusal::PagesTooSmall => number(13),
-        Refusal::WordSizeTooLarge => number(14),
-        Refusal::BadWord => number(15),
-        Refusal::TooLarge => number(16),
-        Refusal::OutsideImage => number(17),
+    let code = dock::refusal_code(refusal);
+    let row = code % 4294967296;
+    number(row as usize);
+    if row == 4 {
+        number((code / 4294967296) as usize);
     }
     end_line();
 }

@@ -26,7 +26,7 @@ use paper::Shape;
 use paper::Shown;
 use paper::Space;
 
-// ---- answers as numbers
+// ---- answers as numbers; programs print them too
 
 // Lengths and sizes are far below 2^32; the remainder keeps the sum within 64 bits for any number.
 fn coded(row: u64, value: usize) -> u64
@@ -37,7 +37,7 @@ fn coded(row: u64, value: usize) -> u64
 }
 
 // The rows of document 01.
-fn refusal_code(refusal: Refusal) -> u64
+pub fn refusal_code(refusal: Refusal) -> u64
     ensures { λ r. ⌜ r ≡ rowCode (row refusal) ⌝ }
 {
     match refusal {
@@ -58,7 +58,7 @@ fn refusal_code(refusal: Refusal) -> u64
     }
 }
 
-fn pushed_code(answer: Pushed) -> u64
+pub fn pushed_code(answer: Pushed) -> u64
     ensures { λ r. ⌜ r ≡ codeOf (pushedAs answer) ⌝ }
 {
     match answer {
@@ -67,7 +67,7 @@ fn pushed_code(answer: Pushed) -> u64
     }
 }
 
-fn shown_code(answer: Shown) -> u64
+pub fn shown_code(answer: Shown) -> u64
     ensures { λ r. ⌜ r ≡ codeOf (shownAs answer) ⌝ }
 {
     match answer {
@@ -77,7 +77,7 @@ fn shown_code(answer: Shown) -> u64
     }
 }
 
-fn fit_code(answer: Fit) -> u64
+pub fn fit_code(answer: Fit) -> u64
     ensures { λ r. ⌜ r ≡ codeOf (fitAs answer) ⌝ }
 {
     match answer {
@@ -88,7 +88,7 @@ fn fit_code(answer: Fit) -> u64
     }
 }
 
-fn space_code(answer: Space) -> u64
+pub fn space_code(answer: Space) -> u64
     ensures { λ r. ⌜ r ≡ codeOf (spaceAs answer) ⌝ }
 {
     match answer {
@@ -97,7 +97,7 @@ fn space_code(answer: Space) -> u64
     }
 }
 
-fn erased_code(answer: Erased) -> u64
+pub fn erased_code(answer: Erased) -> u64
     ensures { λ r. ⌜ r ≡ codeOf (erasedAs answer) ⌝ }
 {
     match answer {

@@ -85,9 +85,30 @@ impl Sizes {
 pub fn random(seed: u64) -> impl Iterator<Item = Case> {
     let mut dice = Dice(seed);
     let sizes = any_sizes(&mut dice);
+    histories(dice, sizes, false)
+}
+
+/// The same over one geometry.
+pub fn random_over(
+    seed: u64,
+    word: usize,
+    page: usize,
+    pages: usize,
+) -> impl Iterator<Item = Case> {
+    let sizes = Sizes {
+        start: 0,
+        page,
+        word,
+        pages,
+    };
+    histories(Dice(seed), sizes, true)
+}
+
+fn histories(dice: Dice, sizes: Sizes, keeps_sizes: bool) -> Histories {
     Histories {
         dice,
         sizes,
+        keeps_sizes,
         image: vec![],
         mood: Mood::Mixed,
         overwrites: false,
@@ -105,6 +126,8 @@ enum Mood {
 struct Histories {
     dice: Dice,
     sizes: Sizes,
+    /// whether every history has these sizes
+    keeps_sizes: bool,
     image: Vec<u8>,
     mood: Mood,
     /// whether some pushes overwrite
@@ -157,7 +180,9 @@ impl Iterator for Histories {
 impl Histories {
     fn begin(&mut self) {
         let dice = &mut self.dice;
-        self.sizes = any_sizes(dice);
+        if !self.keeps_sizes {
+            self.sizes = any_sizes(dice);
+        }
         let sizes = self.sizes;
         let behind = if dice.one_in(2) {
             0

@@ -1,0 +1,544 @@
+//! Makes the calls that crates/replay plays, and asks the judge what the unchanged crate answers. Built and run by oracle/replay.
+//!
+//! The first file named gets the calls, as records (the head of crates/replay/src/main.rt says how they are written); the second gets
+//! what the program has to print. A call to which the crate has no answer is left out, and counted.
+use judge::cases::{random, random_over, small};
+use judge::slip::data_crc;
+use judge::{Call, Case, Outcome, Shape, judge};
+use std::collections::BTreeMap;
+use std::fmt::Write;
+
+/// So many bytes at most are printed whole; more are told by their checksum.
+const FEW: usize = 64;
+
+const WORDS: [u32; 4] = [4, 8, 16, 32];
+
+const CALLS: [Call; 6] = [
+    Call::Push,
+    Call::Peek,
+    Call::Pop,
+    Call::FindMaxFit,
+    Call::SpaceLeft,
+    Call::EraseAll,
+];
+
+fn main() {
+    let [_, calls_path, lines_path] = &std::env::args().collect::<Vec<_>>()[..] else {
+        panic!("usage: replay CALLS LINES");
+    };
+    let mut record = Record::default();
+    smallest_pages(&mut record);
+    for word in WORDS {
+        lengths(word, &mut record);
+        refusals(word, &mut record);
+        histories(word, &mut record);
+        fillings(word, &mut record);
+    }
+    for seed in 1..=24 {
+        for case in random(seed).take(70) {
+            record.add(case);
+        }
+    }
+    record.end();
+    record.reach_every_row();
+    std::fs::write(calls_path, &record.calls).unwrap();
+    std::fs::write(lines_path, &record.lines).unwrap();
+    record.sum_up();
+}
+
+// ---- the calls and the lines
+
+/// What is written so far. A call waits for the next one, which tells whether the image of before or the one that the call left is
+/// nearer to what is needed next.
+#[derive(Default)]
+struct Record {
+    calls: Vec<u8>,
+    lines: String,
+    image: Vec<u8>,
+    shape: Option<Shape>,
+    waiting: Option<(Case, Outcome)>,
+    by_call: BTreeMap<String, usize>,
+    /// by word and row
+    by_row: BTreeMap<u32, BTreeMap<u32, usize>>,
+    limited: usize,
+    left_out: BTreeMap<String, usize>,
+}
+
+impl Record {
+    fn add(&mut self, case: Case) {
+        let outcome = judge(&case);
+        if let Some(name) = outcome.failure {
+            *self.left_out.entry(name).or_default() += 1;
+            return;
+        }
+        self.write_waiting(Some(&case.image));
+        self.count(&case, &outcome);
+        self.write_changes(&case.image);
+        if self.shape != Some(case.shape) {
+            let Shape {
+                start,
+                end,
+                page,
+                word,
+            } = case.shape;
+            self.calls.push(b'S');
+            for number in [start, end, page, word] {
+                self.write_number(number as usize);
+            }
+            self.shape = Some(case.shape);
+        }
+        self.waiting = Some((case, outcome));
+    }
+
+    fn end(&mut self) {
+        self.write_waiting(None);
+    }
+
+    fn write_waiting(&mut self, next: Option<&[u8]>) {
+        let Some((case, outcome)) = self.waiting.take() else {
+            return;
+        };
+        let is_on_copy = next.is_some_and(|next| {
+            changes(&case.image, next).len() < changes(&outcome.image, next).len()
+        });
+        self.write_call(&case, is_on_copy);
+        self.write_line(&case, &outcome);
+        self.image = if is_on_copy {
+            case.image
+        } else {
+            outcome.image
+        };
+    }
+
+    fn write_call(&mut self, case: &Case, is_on_copy: bool) {
+        let flags = u8::from(case.overwrite)
+            + 2 * u8::from(case.limit.is_some())
+            + 4 * u8::from(is_on_copy);
+        self.calls.extend([b'C', letter(case.call), flags]);
+        if let Some(limit) = case.limit {
+            self.write_number(limit);
+        }
+        match case.call {
+            Call::Push => write_run(&mut self.calls, &case.slip),
+            Call::Peek | Call::Pop => write_run(&mut self.calls, &case.buffer),
+            _ => (),
+        }
+    }
+
+    fn write_line(&mut self, case: &Case, outcome: &Outcome) {
+        let numbers: Vec<String> = outcome.numbers.iter().map(u32::to_string).collect();
+        let call = char::from(letter(case.call));
+        let image = shown(&outcome.image);
+        write!(self.lines, "{call} {} {image}", numbers.join(",")).unwrap();
+        if matches!(case.call, Call::Peek | Call::Pop) {
+            write!(self.lines, " {}", shown(&outcome.buffer)).unwrap();
+        }
+        self.lines.push('\n');
+    }
+
+    fn write_changes(&mut self, image: &[u8]) {
+        self.calls.extend(changes(&self.image, image));
+        self.image = image.to_vec();
+    }
+
+    fn write_number(&mut self, number: usize) {
+        write_number(&mut self.calls, number);
+    }
+
+    fn count(&mut self, case: &Case, outcome: &Outcome) {
+        *self.by_call.entry(case.call.to_string()).or_default() += 1;
+        let rows = self.by_row.entry(case.shape.word).or_default();
+        *rows.entry(outcome.numbers[0]).or_default() += 1;
+        self.limited += usize::from(case.limit.is_some());
+    }
+
+    fn sum_up(&self) {
+        let calls: usize = self.by_call.values().sum();
+        let (input, output) = (self.calls.len(), self.lines.len());
+        let limited = self.limited;
+        println!("{calls} calls, {limited} of them limited; {input} bytes in, {output} bytes out");
+        println!("by call: {}", counts(&self.by_call));
+        let mut others = BTreeMap::new();
+        for (word, rows) in &self.by_row {
+            if WORDS.contains(word) {
+                println!("word {word}, by row: {}", counts(rows));
+            } else {
+                for (row, count) in rows {
+                    *others.entry(*row).or_default() += count;
+                }
+            }
+        }
+        println!("other words, by row: {}", counts(&others));
+        for (name, count) in &self.left_out {
+            println!("left out: {count}, {name}");
+        }
+    }
+
+    /// Makes sure that the calls reach each row.
+    fn reach_every_row(&self) {
+        for word in WORDS {
+            for row in [0, 1, 2, 3, 4, 5, 7, 9, 10, 11, 12, 13, 16, 17] {
+                let is_reached = self.by_row[&word].contains_key(&row);
+                assert!(is_reached, "no row {row} at word {word}");
+            }
+        }
+        assert!(self.by_row[&64].contains_key(&14));
+        assert!(self.by_row[&1].contains_key(&15));
+    }
+}
+
+fn counts<T: ToString>(counts: &BTreeMap<T, usize>) -> String {
+    let counts = counts
+        .iter()
+        .map(|(name, count)| format!("{}: {count}", name.to_string()));
+    counts.collect::<Vec<_>>().join(", ")
+}
+
+fn letter(call: Call) -> u8 {
+    match call {
+        Call::Push => b'p',
+        Call::Peek => b'k',
+        Call::Pop => b'o',
+        Call::FindMaxFit => b'f',
+        Call::SpaceLeft => b's',
+        Call::EraseAll => b'e',
+    }
+}
+
+fn shown(bytes: &[u8]) -> String {
+    match bytes.len() {
+        0 => "-".into(),
+        1..=FEW => bytes.iter().map(|byte| format!("{byte:02x}")).collect(),
+        _ => format!("{:08x}", data_crc(bytes)),
+    }
+}
+
+fn write_number(calls: &mut Vec<u8>, number: usize) {
+    calls.extend(u32::try_from(number).unwrap().to_le_bytes());
+}
+
+fn write_run(calls: &mut Vec<u8>, bytes: &[u8]) {
+    write_number(calls, bytes.len());
+    let first = bytes.first().copied().unwrap_or(0);
+    if bytes.iter().all(|byte| *byte == first) {
+        calls.extend([0, first]);
+    } else {
+        calls.push(1);
+        calls.extend(bytes);
+    }
+}
+
+/// The shortest records known that make one image of another: changes of it, or a new one, blank and changed, or whole.
+fn changes(old: &[u8], new: &[u8]) -> Vec<u8> {
+    let mut whole = vec![b'L'];
+    write_run(&mut whole, new);
+    let blank = vec![0xff; new.len()];
+    let mut changed = vec![b'L'];
+    write_run(&mut changed, &blank);
+    changed.extend(patches(&blank, new));
+    let mut best = if changed.len() < whole.len() {
+        changed
+    } else {
+        whole
+    };
+    if old.len() == new.len() {
+        let patches = patches(old, new);
+        if patches.len() <= best.len() {
+            best = patches;
+        }
+    }
+    best
+}
+
+/// A change for each stretch that differs. Stretches that lie close are one, since a record costs more than a few bytes.
+fn patches(old: &[u8], new: &[u8]) -> Vec<u8> {
+    const CLOSE: usize = 10;
+    let mut stretches: Vec<(usize, usize)> = vec![];
+    for at in (0..new.len()).filter(|at| old[*at] != new[*at]) {
+        match stretches.last_mut() {
+            Some((_, end)) if at - *end < CLOSE => *end = at + 1,
+            _ => stretches.push((at, at + 1)),
+        }
+    }
+    let mut records = vec![];
+    for (start, end) in stretches {
+        records.push(b'P');
+        write_number(&mut records, start);
+        write_run(&mut records, &new[start..end]);
+    }
+    records
+}
+
+// ---- cases
+
+fn smallest(word: u32) -> u32 {
+    3 * word + 8_u32.next_multiple_of(word)
+}
+
+fn shape(word: u32, page: u32, pages: u32) -> Shape {
+    Shape {
+        start: 0,
+        end: pages * page,
+        page,
+        word,
+    }
+}
+
+fn longest(shape: Shape) -> usize {
+    (shape.page - 2 * shape.word - 8_u32.next_multiple_of(shape.word)) as usize
+}
+
+/// A call on an image, with nothing else given.
+fn plain(call: Call, shape: Shape, image: &[u8]) -> Case {
+    Case {
+        call,
+        shape,
+        limit: None,
+        overwrite: false,
+        image: image.to_vec(),
+        slip: vec![],
+        buffer: vec![],
+    }
+}
+
+fn erased(shape: Shape) -> Vec<u8> {
+    vec![0xff; shape.end as usize]
+}
+
+/// A share of the judge's small cases: one to three of the smallest pages or nearly so, every call, whole and with every limit, up
+/// to one past the last store.
+fn smallest_pages(record: &mut Record) {
+    let mut share = Share::default();
+    let mut last: Option<Case> = None;
+    for case in small().filter(|case| share.has(case)) {
+        // a whole call follows the last limit of the one before
+        if case.limit.is_none()
+            && let Some(before) = last.take()
+        {
+            record.add(one_more(before));
+        }
+        last = Some(case.clone());
+        record.add(case);
+    }
+    if let Some(before) = last {
+        record.add(one_more(before));
+    }
+}
+
+fn one_more(case: Case) -> Case {
+    Case {
+        limit: case.limit.map(|limit| limit + 1),
+        ..case
+    }
+}
+
+/// A share of the images of each geometry.
+#[derive(Default)]
+struct Share {
+    shape: Option<Shape>,
+    image: Vec<u8>,
+    /// how many geometries there were, and images of the last one
+    shapes: usize,
+    images: usize,
+}
+
+impl Share {
+    fn has(&mut self, case: &Case) -> bool {
+        if self.shape != Some(case.shape) {
+            self.shape = Some(case.shape);
+            self.shapes += 1;
+            self.images = 0;
+            self.image.clear();
+        }
+        if self.image != case.image {
+            self.image.clone_from(&case.image);
+            self.images += 1;
+        }
+        // odd steps, since the number of different pages is even; each geometry begins with another image
+        let step = match case.shape.end / case.shape.page {
+            1 => 9,
+            2 => 311,
+            _ => 1021,
+        };
+        (self.images + 2 * self.shapes).is_multiple_of(step)
+    }
+}
+
+/// Slips about as long as the longest and as a word, and buffers about as large as what they are to hold, for pages of all sizes.
+fn lengths(word: u32, record: &mut Record) {
+    let small = smallest(word);
+    for page in [small, small + word, 256, 512, 1024, 2048, 4096] {
+        let shape = shape(word, page, 2);
+        let (word, longest) = (word as usize, longest(shape));
+        let about = [
+            0,
+            1,
+            word - 1,
+            word,
+            word + 1,
+            longest - 1,
+            longest,
+            longest + 1,
+        ];
+        for length in about.into_iter().chain([longest + word, 0xffff, 0x1_0000]) {
+            let mut push = plain(Call::Push, shape, &erased(shape));
+            push.slip = vec![0x5a; length];
+            record.add(push.clone());
+            if length == 1 || length == longest - 1 || length == longest {
+                buffers(&push, record);
+            }
+        }
+    }
+}
+
+/// Peek and pop of the slip that a push leaves.
+fn buffers(push: &Case, record: &mut Record) {
+    let image = judge(push).image;
+    let needed = push.slip.len().next_multiple_of(push.shape.word as usize);
+    for call in [Call::Peek, Call::Pop] {
+        for length in [0, push.slip.len(), needed - 1, needed, needed + 1] {
+            let mut case = plain(call, push.shape, &image);
+            case.buffer = vec![0xa5; length];
+            record.add(case);
+        }
+    }
+}
+
+/// Shapes that are refused, and some that nearly are: every call, whole, with no stores, and with more than it can make.
+fn refusals(word: u32, record: &mut Record) {
+    let page = 8 * word;
+    let image: Vec<u8> = (0..3 * page + 5).map(|at| at as u8).collect();
+    for (index, [start, end, page, word]) in odd_shapes(word, page).into_iter().enumerate() {
+        let shape = Shape {
+            start,
+            end,
+            page,
+            word,
+        };
+        for call in CALLS {
+            let mut case = plain(call, shape, &image);
+            case.limit = [None, Some(0), Some(u32::MAX as usize)][index % 3];
+            case.slip = vec![7; 3];
+            case.buffer = vec![7; 24];
+            record.add(case);
+        }
+    }
+    outside(word, record);
+}
+
+/// Start, end, page and word, for an image of three pages and five bytes: rows 9 to 17 in their order, then two that are accepted.
+fn odd_shapes(word: u32, page: u32) -> [[u32; 4]; 26] {
+    let small = smallest(word) - word;
+    let high = u32::MAX / page * page;
+    [
+        [0, page, 0, word],
+        [0, page, page, 0],
+        [0, 2 * (page + 1), page + 1, word],
+        [1, page, page, word],
+        [page - word, 2 * page, page, word],
+        [0, page - 1, page, word],
+        [page, 3 * page + word, page, word],
+        [0, 0, page, word],
+        [page, page, page, word],
+        [high, high, page, word],
+        [2 * page, page, page, word],
+        [0, 3 * word, word, word],
+        [0, small, small, word],
+        [0, 256, 256, 64],
+        [0, 165, 165, 33],
+        [0, 40, 40, 1],
+        [0, 60, 60, 6],
+        [0, 155, 155, 31],
+        [0, 4096 + word, 4096 + word, word],
+        [0, 65 * page, page, word],
+        [page, 66 * page, page, word],
+        [0, high, page, word],
+        [0, 64 * page, page, word],
+        [0, 4 * page, page, word],
+        [0, 3 * page, page, word],
+        [2 * page, 3 * page, page, word],
+    ]
+}
+
+/// Images that end before the range does, and that end with it.
+fn outside(word: u32, record: &mut Record) {
+    let shape = shape(word, smallest(word), 2);
+    for length in [0, shape.page, shape.end - 1, shape.end] {
+        for call in CALLS {
+            record.add(plain(call, shape, &erased(shape)[..length as usize]));
+        }
+    }
+}
+
+/// Random histories over one geometry each, with cuts, damaged copies, broken shapes and all kinds of buffers.
+fn histories(word: u32, record: &mut Record) {
+    let small = smallest(word);
+    let geometries = [
+        (small, 1, 40),
+        (small, 2, 40),
+        (small, 3, 60),
+        (small + word, 2, 60),
+        (small + word, 5, 60),
+        (small, 16, 60),
+        (small, 63, 60),
+        (small, 64, 60),
+        (256, 3, 40),
+        (512, 2, 20),
+        (1024, 3, 20),
+        (2048, 1, 20),
+        (4096, 2, 20),
+    ];
+    for (page, pages, calls) in geometries {
+        let seed = u64::from(word * 1_000_000 + page * 100 + pages);
+        let (word, page, pages) = (word as usize, page as usize, pages as usize);
+        for case in random_over(seed, word, page, pages).take(calls) {
+            record.add(case);
+        }
+    }
+}
+
+/// Images of many pages, the largest among them, filled to the last page and emptied.
+fn fillings(word: u32, record: &mut Record) {
+    let small = smallest(word);
+    for (page, pages) in [(small, 16), (small, 63), (small, 64), (256, 5), (4096, 64)] {
+        let shape = shape(word, page, pages);
+        let mut image = erased(shape);
+        for (index, (call, overwrite, limit)) in filling(pages as usize).into_iter().enumerate() {
+            let mut case = plain(call, shape, &image);
+            case.overwrite = overwrite;
+            case.limit = limit;
+            // one slip to a page, or nearly so
+            case.slip = vec![index as u8; longest(shape) - index % 3];
+            case.buffer = vec![0xa5; page as usize];
+            image = judge(&case).image;
+            record.add(case);
+        }
+    }
+}
+
+/// Pushes to every page, some of them cut; more pushes to the full range, then with overwriting, cut after each of the first
+/// stores; pops, cut and whole; pushes behind the pops; and the end of it.
+fn filling(pages: usize) -> Vec<(Call, bool, Option<usize>)> {
+    let push = |limit| (Call::Push, false, limit);
+    let over = |limit| (Call::Push, true, limit);
+    let ask = |call| (call, false, None);
+    let mut calls = vec![];
+    for page in 0..pages {
+        if page % 8 == 3 {
+            calls.push(push(Some(page)));
+        }
+        calls.push(push(None));
+    }
+    calls.extend([push(None), push(Some(0)), ask(Call::FindMaxFit)]);
+    calls.extend([ask(Call::SpaceLeft), over(Some(0)), over(Some(1))]);
+    calls.extend([over(Some(2)), over(None), over(None), ask(Call::Peek)]);
+    for turn in 0..pages / 4 {
+        calls.push((Call::Pop, false, Some(turn % 3)));
+        calls.push(ask(Call::Pop));
+    }
+    calls.extend([push(None), over(Some(3)), ask(Call::SpaceLeft)]);
+    calls.extend([ask(Call::FindMaxFit), ask(Call::Peek)]);
+    calls.push((Call::EraseAll, false, Some(pages - 1)));
+    calls.extend([ask(Call::Peek), push(None), ask(Call::EraseAll)]);
+    calls
+}
