@@ -219,7 +219,7 @@ once {g} {im} I gh (pops buf) Fs = by (peekpop.sought I buf .result)
   where
     by : Result g (waiting g im) im (length buf) (peekpop.sought I buf .events) (peekpop.sought I buf .out) → ChangesOnce g im (pops buf)
     by (isNothing a z) = steady-once g im (pops buf) (peekpop.idle-plan I buf empty (ap (popped g) a) (ap shownBy a)) (peekpop.sought I buf .steady) refl
-    by (isShort k a z) =
+    by (isShort k a p hp z) =
         let p = peekpop.idle-plan I buf (refused (refusal.BufferTooSmall k)) (ap (popped g) a) (ap shownBy a) in
         steady-once g im (pops buf) p (peekpop.sought I buf .steady) refl
     by (isThis h a X) = pop-once I gh buf h a X Fs

@@ -2,7 +2,7 @@
 use mathlib.Core.List.{List, [], _∷_, _++_, append-nil, tail, List·Memᴰ}
 use mathlib.Core.Logic.{inr}
 use mathlib.Core.Path.{_≡_, refl, sym, ap, _∙_, subst}
-use Prim.Native.Nat.{ℕ, _-_, _≤_}
+use Prim.Native.Nat.{ℕ, _-_, _≤_, _<_}
 use native.Mathlib.Omega.{arith}
 use lib.ListN.{length, take}
 use Rattle.paper.specs.declared.Geometry.{Geometry}
@@ -13,7 +13,7 @@ use Rattle.paper.specs.Scan.{Head, pageWalk}
 use Rattle.paper.specs.Refusals.{Answer, shown, empty, refused}
 use Rattle.paper.specs.Calls.{Outcome, this, shownBy, popped, peek, pop}
 use Rattle.paper.specs.Waiting.{waiting}
-use Rattle.paper.specs.Fifo.{peeks, pops, Power, whole, cutAfter, planOf, eventsOf, imageNext, Ghost, ghostNext, Fair, Plain, showsNone, showsNot, shows, takesNone, takesNot, takes}
+use Rattle.paper.specs.Fifo.{peeks, pops, Power, whole, cutAfter, planOf, eventsOf, imageNext, Ghost, ghostNext, Fair, TooLong, Plain, showsNone, showsNot, shows, takesNone, takesNot, takes}
 use Rattle.laws.proofs.Events.{image-append, buffer-append, before-less, before-more}
 use Rattle.laws.proofs.Sides.{Side, below, above, side}
 use Rattle.fifo.proofs.Events.{Avoids, avoid-append, avoid-before}
@@ -24,6 +24,7 @@ use Rattle.fifo.proofs.ZeroedScan.{zeros4}
 use Rattle.fifo.proofs.Invariant.{Inv}
 use Rattle.fifo.proofs.Steady.{steady-before, steady-after, was-there}
 use Rattle.fifo.proofs.Ghosts.{StayRefused, unmet}
+use Rattle.fifo.proofs.Copies.{Overlong}
 use Rattle.fifo.proofs.Popping.{FirstPresent, first-in, body-length, zeroed, zeroed-all, first-listed, popped-inv, popped-list, popped-heads}
 use Rattle.fifo.proofs.Search.{Found, Result, isNothing, isShort, isThis, Searched, searched}
 use Rattle.fifo.proofs.Step.{Traced, Step, whole-step, cut-step, early-step, steady-step}
@@ -49,6 +50,18 @@ module _ {g : Geometry} {im : List ℕ} {o b : ℕ} (I : Inv g im o b) (buf : Li
   same-list : waiting g (imageAfter g (sought .events) im) ≡ waiting g im
   same-list = steady-after (sought .steady) .list
 
+  -- a header that was too long was there from the start
+  too-long : {k : ℕ} (p : ℕ) → p < g .pages → Overlong g (length buf) (pageWalk g (imageAfter g (sought .events) im) p .heads) k → TooLong g im (length buf) k
+  too-long p hp z = record {
+    page = p;
+    inside = hp;
+    head = z .head;
+    there = was-there (sought .steady) p hp (z .head) (z .there) .0;
+    alive = z .alive;
+    rounded = z .rounded;
+    over = z .over;
+  }
+
   -- ---- peek
 
   pub peek-plan : planOf g im (peeks buf) ≡ plan (sought .events) (shownBy (sought .out))
@@ -61,7 +74,7 @@ module _ {g : Geometry} {im : List ℕ} {o b : ℕ} (I : Inv g im o b) (buf : Li
       by : Result g (waiting g im) im (length buf) E (sought .out)
           → Plain g im (peeks buf) (shownBy (sought .out)) (bufferAfter g E im buf) (waiting g im) (waiting g im)
       by (isNothing a z) = rw (a, z) showsNone
-      by (isShort k a z) = rw a (showsNot z)
+      by (isShort k a p hp z) = rw a (showsNot (too-long p hp z))
       by (isThis h a X) = rw a (shows-first g im buf (bufferAfter g E im buf) (body-length (X .first)) (X .shown buf) (sym same-list ∙ first-listed (X .first)))
 
   -- ---- pop
@@ -143,7 +156,7 @@ module _ {g : Geometry} {im : List ℕ} {o b : ℕ} (I : Inv g im o b) (buf : Li
     where
       by : Result g (waiting g im) im (length buf) E (sought .out) → Step g im (pops buf) w
       by (isNothing a z) = steady-step im (pops buf) (idle-plan empty (ap (popped g) a) (ap shownBy a)) (sought .steady) (rw z takesNone) w
-      by (isShort k a z) =
+      by (isShort k a p hp z) =
           let no : Answer = refused (refusal.BufferTooSmall k) in
-          steady-step im (pops buf) (idle-plan no (ap (popped g) a) (ap shownBy a)) (sought .steady) (takesNot z) w
+          steady-step im (pops buf) (idle-plan no (ap (popped g) a) (ap shownBy a)) (sought .steady) (takesNot (too-long p hp z)) w
       by (isThis h a X) = found-step gh h a X w Fr

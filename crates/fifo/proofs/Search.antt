@@ -23,7 +23,7 @@ use Rattle.fifo.proofs.Changed.{walk-other, erase-changed, erased-walk}
 use Rattle.fifo.proofs.Invariant.{Inv, listed}
 use Rattle.fifo.proofs.Erasing.{erase-inv, erase-list}
 use Rattle.fifo.proofs.Steady.{Keeps, Steady, rests, goes, erased, steady-append}
-use Rattle.fifo.proofs.Copies.{Copies, noCopies, aCopy, copies-append, copies-image, copies-steady, copies-avoid, image-on, buffer-on, last-copy, reads, HeadsRead, allPassed, tooSmall, gotIt, heads-read}
+use Rattle.fifo.proofs.Copies.{Copies, noCopies, aCopy, copies-append, copies-image, copies-steady, copies-avoid, image-on, buffer-on, last-copy, reads, HeadsRead, Overlong, allPassed, tooSmall, gotIt, heads-read}
 use Rattle.fifo.proofs.NextPage.{endsAt, Ahead, stops, leads, Behind, ahead, leave-stop, leave-on}
 use Rattle.fifo.proofs.Popping.{FirstPresent, first-in, not-empty, body-at, body-length}
 
@@ -37,7 +37,7 @@ pub record Found (g : Geometry) (jm : List ℕ) (es : List Event) (h : Head) : T
 -- what a search of the list q with a buffer of n bytes comes to
 pub data Result (g : Geometry) (q : List (List ℕ)) (jm : List ℕ) (n : ℕ) (es : List Event) (out : Outcome) : Type 0 where
   isNothing : out ≡ nothing → q ≡ [] → Result g q jm n es out
-  isShort : (k : ℕ) → out ≡ short k → n < k → Result g q jm n es out
+  isShort : (k : ℕ) → out ≡ short k → (p : ℕ) → p < g .pages → Overlong g n (pageWalk g (imageAfter g es jm) p .heads) k → Result g q jm n es out
   isThis : (h : Head) → out ≡ this h → Found g jm es h → Result g q jm n es out
 
 record Finds (g : Geometry) (q : List (List ℕ)) (jm : List ℕ) (n : ℕ) (p : Plan (Try Stand Outcome)) : Type 0 where
@@ -120,11 +120,11 @@ module _ {g : Geometry} {jm : List ℕ} {o b : ℕ} (I : Inv g jm o b) {old : �
 
           by : Result g q km n (R .events) (R .out) → Result g q jm n (es ++ (erase o ∷ R .events)) (R .out)
           by (isNothing a x) = isNothing a x
-          by (isShort m a x) = isShort m a x
+          by (isShort m a p hp x) = isShort m a p hp (rw is-image x)
           by (isThis h a x) = isThis h a (found h x)
 
     -- a live header is too long for the buffer
-    read-short : (k m : ℕ) → readHeads g n (pageWalk g jm o .heads) jm ≡ plan es (long m) → n < m
+    read-short : (k m : ℕ) → readHeads g n (pageWalk g jm o .heads) jm ≡ plan es (long m) → Overlong g n (pageWalk g jm o .heads) m
         → Finds g q jm n (nextItem g n old (suc k) (onPage o) jm)
     unfolding nextItem readPage onMet
     read-short k m e h = record {
@@ -132,7 +132,7 @@ module _ {g : Geometry} {jm : List ℕ} {o b : ℕ} (I : Inv g jm o b) {old : �
       out = short m;
       is = bind-last g jm (onMet (nextItem g n old k (afterPage o))) e refl;
       steady = copies-steady K c;
-      result = isShort m refl h;
+      result = isShort m refl o (S .old-in) (rw same-image h);
     }
 
     -- the first present item is in page o

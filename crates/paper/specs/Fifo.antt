@@ -9,8 +9,8 @@ use lib.ListN.{length, take, replicate}
 use Rattle.paper.specs.declared.Shape.{Shape}
 use Rattle.paper.specs.declared.Refusal.the-variants as refusal
 use Rattle.paper.specs.Checksum.{dataCrc}
-use Rattle.paper.specs.Chip.{Geometry, headerSize, wordsFor, pageStart, pageBytes, part, Event, store, erase, copy, imageAfter, bufferAfter, storeCount, before, Plan, plan, Try, fails, gives}
-use Rattle.paper.specs.Scan.{Head, pageWalk, serves, anyLive}
+use Rattle.paper.specs.Chip.{Geometry, roundUp, headerSize, wordsFor, pageStart, pageBytes, part, Event, store, erase, copy, imageAfter, bufferAfter, storeCount, before, Plan, plan, Try, fails, gives}
+use Rattle.paper.specs.Scan.{Head, pageWalk, serves, live, anyLive}
 use Rattle.paper.specs.Pages.{Closed, state, next, allPages, youngest}
 use Rattle.paper.specs.Refusals.{Accepted, check, Answer, done, shown, number, none, empty, refused}
 use Rattle.paper.specs.Calls.{Spot, full, at, tooBig, spotFor, push, peek, pop, findMaxFit, spaceLeft, eraseAll}
@@ -195,6 +195,16 @@ pub record Full (g : Geometry) (im : List ℕ) (n : ℕ) : Type 0 where
   pub again : (state g im (next g page) ≡ Closed) ⊎ (next g page ≡ page)
   pub live : anyLive (pageWalk g im (next g page) .heads) ≡ true
 
+-- row 4: "the first live header that doesn't fit the buffer is met; n is its rounded length"; m is the buffer's size
+pub record TooLong (g : Geometry) (im : List ℕ) (m n : ℕ) : Type 0 where
+  pub page : ℕ
+  pub inside : page < g .pages
+  pub head : Head
+  pub there : List·Memᴰ head (pageWalk g im page .heads)
+  pub alive : live head ≡ true
+  pub rounded : n ≡ roundUp (g .word) (head .len)
+  pub over : m < n
+
 -- a whole call's answer, and the list r that it leaves of the list q, "as a plain first-in-first-out list does, apart from the refusals
 -- laid down"; buf is the buffer afterwards
 pub data Plain (g : Geometry) (im : List ℕ) : Call → Answer → List ℕ → List (List ℕ) → List (List ℕ) → Type 0 where
@@ -204,10 +214,10 @@ pub data Plain (g : Geometry) (im : List ℕ) : Call → Answer → List ℕ →
   noRoom : {s buf : List ℕ} {q : List (List ℕ)} → tooBig g (length s) ≡ false → Full g im (length s)
       → Plain g im (pushes s) (refused refusal.FullStorage) buf q q
   showsNone : {b buf : List ℕ} → Plain g im (peeks b) empty buf [] []
-  showsNot : {n : ℕ} {b buf : List ℕ} {q : List (List ℕ)} → length b < n → Plain g im (peeks b) (refused (refusal.BufferTooSmall n)) buf q q
+  showsNot : {n : ℕ} {b buf : List ℕ} {q : List (List ℕ)} → TooLong g im (length b) n → Plain g im (peeks b) (refused (refusal.BufferTooSmall n)) buf q q
   shows : {b buf s : List ℕ} {q : List (List ℕ)} → take (length s) buf ≡ s → Plain g im (peeks b) (shown (length s)) buf (s ∷ q) (s ∷ q)
   takesNone : {b buf : List ℕ} → Plain g im (pops b) empty buf [] []
-  takesNot : {n : ℕ} {b buf : List ℕ} {q : List (List ℕ)} → length b < n → Plain g im (pops b) (refused (refusal.BufferTooSmall n)) buf q q
+  takesNot : {n : ℕ} {b buf : List ℕ} {q : List (List ℕ)} → TooLong g im (length b) n → Plain g im (pops b) (refused (refusal.BufferTooSmall n)) buf q q
   takes : {b buf s : List ℕ} {q : List (List ℕ)} → take (length s) buf ≡ s → Plain g im (pops b) (shown (length s)) buf (s ∷ q) q
   fitted : {a : Answer} {buf : List ℕ} {q : List (List ℕ)} → Plain g im fits a buf q q
   measured : {a : Answer} {buf : List ℕ} {q : List (List ℕ)} → Plain g im spaces a buf q q
