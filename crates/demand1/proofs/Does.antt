@@ -43,6 +43,12 @@ module _ (g : Geometry) (im : List ℕ) (P : Event → Type 0) where
   unfolding repair
   repair-erases f = repairs-do Any (λ p u e. f p) (allPages g) (each-any (allPages g))
 
+-- leaving a page erases it, or does nothing
+pub left-does : (g : Geometry) (P : Event → Type 0) (clears : Bool) (p : ℕ) → (clears ≡ true → P (erase p)) → Each P (cond clears (erasePage g p) [])
+unfolding erasePage
+left-does g P true p f = (f refl, tt)
+left-does g P false p f = tt
+
 pub writes-store : (g : Geometry) (P : Event → Type 0) → ((a : ℕ) (word : List ℕ) → P (store a word)) → (a : ℕ) (bytes : List ℕ) → Each P (writes g a bytes)
 unfolding writes words
 writes-store g P f a bytes = go (wordsFor (g .word) (length bytes)) a bytes

@@ -11,9 +11,9 @@ use lib.ListN.{length, take, drop, length-take, length-drop}
 use lib.Seq.{drop-drop, take-nil}
 use Rattle.paper.specs.declared.Geometry.{Geometry}
 use Rattle.paper.specs.Checksum.{lengthCrc}
-use Rattle.paper.specs.Chip.{wordsFor, roundUp, headerSize, dataStart, dataSize, pageData, part}
+use Rattle.paper.specs.Chip.{wordsFor, roundUp, headerSize, dataEnd, pageOf, part}
 use Rattle.paper.specs.Slip.{Look, stop, bad, item, look, decode, blank, numberOf}
-use Rattle.paper.specs.Scan.{Head, onward, walk, pageWalk}
+use Rattle.paper.specs.Scan.{Head, onward, walk, walkOn}
 use Rattle.laws.proofs.Parts.{part-part}
 use Rattle.laws.proofs.Rounding.{round-up-ge}
 use Rattle.demand1.specs.Range.{Each}
@@ -108,6 +108,6 @@ module _ (g : Geometry) (im : List ℕ) where
             f (headerSize g + roundUp (g .word) n - 1),
           )
 
-  pub page-whole : (p : ℕ) → Each (Whole g im) (pageWalk g im p .heads)
-  unfolding pageWalk pageData
-  page-whole p = walk-whole 0 (dataStart g p) (dataSize g) (pageData g im p) refl
+  pub walk-on-whole : (a : ℕ) → Each (Whole g im) (walkOn g im a .heads)
+  unfolding walkOn
+  walk-on-whole a = let m : ℕ = dataEnd g (pageOf g a) - a in walk-whole 0 a m (part a m im) refl

@@ -8,7 +8,7 @@ use Rattle.paper.specs.declared.Geometry.{Geometry}
 use Rattle.paper.specs.Chip.{pageStart, pageBytes, part, Event, store, erase, copy, put, ands, imageBy, imageAfter, bufferBy, bufferAfter}
 use Rattle.laws.proofs.Accepted.{Laid}
 use Rattle.laws.proofs.Ands.{ands-length, ands-take}
-use Rattle.laws.proofs.Parts.{part-part}
+use Rattle.laws.proofs.Parts.{parts-same}
 use Rattle.laws.proofs.Places.{page-in}
 use Rattle.laws.proofs.Puts.{put-nil, length-put, take-before, drop-after, part-around}
 use Rattle.demand1.specs.Range.{Lies, Each}
@@ -45,11 +45,7 @@ range-end g = refl
 
 module _ {g : Geometry} {n : ℕ} (S : Laid g n) where
   alike-part : (im jm : List ℕ) → Alike g n im jm → (a m : ℕ) → g .start ≤ a → a + m ≤ pageStart g (g .pages) → part a m im ≡ part a m jm
-  alike-part im jm A a m l h =
-      let at : (x : List ℕ) → part (a - g .start) m (range g x) ≡ part a m x =
-      λ x. let z : g .start + (a - g .start) ≡ a = omega arith in
-      part-part (g .start) (g .pages * g .page) (a - g .start) m x (omega (arith, range-end g)) ∙ ap (λ (k : ℕ). part k m x) z in
-      sym (at im) ∙ ap (part (a - g .start) m) (A .same) ∙ at jm
+  alike-part im jm A a m l h = parts-same (g .start) (g .pages * g .page) im jm (A .same) a m l (omega (arith, range-end g))
 
   pub alike-page : (im jm : List ℕ) → Alike g n im jm → (p : ℕ) → p < g .pages → pageBytes g im p ≡ pageBytes g jm p
   unfolding pageBytes

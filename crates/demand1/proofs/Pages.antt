@@ -1,16 +1,18 @@
 -- Where pages lie, and that a page's bytes decide its state and walk. Assumes nothing.
-use mathlib.Core.Path.{_≡_, refl}
+use mathlib.Core.Path.{_≡_, refl, ap}
 use mathlib.Core.List.{List}
 use Prim.Native.Nat.{ℕ, zero, suc, _+_, _-_, _*_, _≤_, _<_, _∣_}
 use native.Mathlib.Nat.{add-assoc, dvd-add, dvd-sub, dvd-refl, dvd-mul-left, dvd-mul-left-of-dvd}
 use native.Mathlib.Omega.{arith}
 use Rattle.paper.specs.declared.Geometry.{Geometry}
-use Rattle.paper.specs.Chip.{roundUp, headerSize, pageStart, dataStart, dataSize, dataEnd, pageBytes}
-use Rattle.paper.specs.Scan.{pageWalk}
+use Rattle.paper.specs.Chip.{roundUp, headerSize, pageStart, dataStart, dataSize, dataEnd, pageOf, pageBytes}
+use Rattle.paper.specs.Scan.{walk, pageWalk, walkOn}
 use Rattle.paper.specs.Pages.{state, next, around, from, allPages}
 use Rattle.laws.proofs.Accepted.{Laid}
 use Rattle.laws.proofs.PageBytes as page-bytes
+use Rattle.laws.proofs.Parts.{parts-same}
 use Rattle.laws.proofs.Ring.{next-in}
+use Rattle.laws.proofs.Standing.{page-of-start}
 use Rattle.demand1.specs.Range.{Each}
 
 -- ---- where they lie
@@ -52,6 +54,25 @@ layout {g} S p =
       size-whole = c;
     }
 
+-- an address in the data of a page of the range, at a whole word
+pub record InData (g : Geometry) (a : ℕ) : Type 0 where
+  pub page : pageOf g a < g .pages
+  pub low : dataStart g (pageOf g a) ≤ a
+  pub high : a ≤ dataEnd g (pageOf g a)
+  pub aligned : g .word ∣ a
+
+module _ {g : Geometry} {n : ℕ} (S : Laid g n) where
+  -- a page is more than its first word
+  pub inner : g .word < g .page
+  inner = omega (arith, S .room, S .low)
+
+  -- a page's data begin with one
+  pub start-in : (p : ℕ) → p < g .pages → InData g (dataStart g p)
+  start-in p h =
+      let L = layout S p in
+      let e = page-of-start g inner p in
+      record { page = rw e h; low = rw e (omega arith); high = rw e (omega arith); aligned = L .data-whole }
+
 -- ---- what their bytes decide
 
 module _ {g : Geometry} {n : ℕ} (S : Laid g n) (im jm : List ℕ) (p : ℕ) (e : pageBytes g im p ≡ pageBytes g jm p) where
@@ -63,6 +84,15 @@ module _ {g : Geometry} {n : ℕ} (S : Laid g n) (im jm : List ℕ) (p : ℕ) (e
 
   pub walk-same : pageWalk g im p ≡ pageWalk g jm p
   walk-same = page-bytes.walk-same g marks im jm p e
+
+-- from an address in its data on
+pub walk-on-same : {g : Geometry} {n : ℕ} → Laid g n → (im jm : List ℕ) (a : ℕ) → InData g a → pageBytes g im (pageOf g a) ≡ pageBytes g jm (pageOf g a)
+    → walkOn g im a ≡ walkOn g jm a
+unfolding walkOn pageBytes
+walk-on-same {g} S im jm a I e =
+    let p : ℕ = pageOf g a in
+    let L = layout S p in
+    ap (walk g 0 a) (parts-same (pageStart g p) (g .page) im jm e a (dataEnd g p - a) (omega (arith, I .low)) (omega (arith, I .low, I .high)))
 
 -- ---- the ring
 

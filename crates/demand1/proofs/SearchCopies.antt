@@ -1,6 +1,6 @@
 -- A peek or pop copies no more than the buffer takes, and what it shows fits the buffer. Assumes nothing.
 use mathlib.Core.Path.{_≡_, refl, subst}
-use mathlib.Core.Bool.{true, not, _||_}
+use mathlib.Core.Bool.{Bool, true, not, _||_}
 use mathlib.Core.List.{List, [], _∷_, List·Memᴰ·head, List·Memᴰ·tail}
 use Prim.Native.Nat.{ℕ, zero, suc, _+_, _*_, _≤_}
 use native.Mathlib.Omega.{arith}
@@ -8,17 +8,17 @@ use borrow.Author.Tests.{ltb-false, not-false}
 use lib.Dec.{eqb, ltb}
 use Rattle.paper.specs.declared.Geometry.{Geometry}
 use Rattle.paper.specs.declared.PageState.the-variants.{Open, Corrupted}
-use Rattle.paper.specs.Chip.{roundUp, headerSize, Event, store, erase, copy, erasePage, plan, Try, fails, gives, settled}
+use Rattle.paper.specs.Chip.{roundUp, headerSize, dataStart, pageOf, Event, store, erase, copy, plan, Try, fails, gives, settled}
 use Rattle.paper.specs.Slip.{encode}
-use Rattle.paper.specs.Scan.{Head, pageWalk, live, present}
+use Rattle.paper.specs.Scan.{Head, walkOn, live, present}
 use Rattle.paper.specs.Pages.{state, same, next, oldest}
 use Rattle.paper.specs.Refusals.{Answer, shown}
-use Rattle.paper.specs.Calls.{Met, passed, long, met, readHeads, Stand, onPage, afterPage, Outcome, nothing, short, this, spoilt, onMet, readPage, leavePage, nextItem, nextStep, startStep, searchOn, search, shownBy, popped, peek, pop}
+use Rattle.paper.specs.Calls.{Met, passed, long, met, readHeads, Stand, fromAddress, afterPage, Outcome, nothing, short, this, spoilt, onMet, readPage, leavePage, nextItem, nextStep, startStep, searchOn, search, shownBy, popped, peek, pop}
 use Rattle.demand1.specs.Range.{Each}
 use Rattle.demand1.specs.Buffers.{Copies, ReadOf}
 use Rattle.demand1.proofs.Lists.{each-weaker, each-any, never}
-use Rattle.demand1.proofs.Items.{Whole, page-whole}
-use Rattle.demand1.proofs.Does.{Tried, Any, writes-store, Does, does-cond, does-bind, does-steps}
+use Rattle.demand1.proofs.Items.{Whole, walk-on-whole}
+use Rattle.demand1.proofs.Does.{Tried, Any, left-does, writes-store, Does, does-cond, does-bind, does-steps}
 
 -- a header that was met is one of those read, live, and the buffer takes it
 abbrev MetOf : Geometry → ℕ → (Head → Type 0) → Met → Type 0
@@ -66,21 +66,25 @@ module _ (g : Geometry) (n : ℕ) where
   abbrev NextFits : Try Stand Outcome → Type 0
   NextFits = Tried Any (OutFits n)
 
-  next-does : (old k : ℕ) (s : Stand) (im : List ℕ) → Does (Copies n) NextFits (nextItem g n old k s im)
-  unfolding nextItem readPage onMet leavePage erasePage
-  next-does old zero s im = record { each = tt; answers = tt }
-  next-does old (suc k) (onPage p) im =
-      does-bind g (MetOf g n (Whole g im)) im (onMet (nextItem g n old k (afterPage p))) (heads-do (Whole g im) (pageWalk g im p .heads) (page-whole g im p) im) (on (next-does old k (afterPage p)))
+  next-does : (old : ℕ) (clears : Bool) (k : ℕ) (s : Stand) (im : List ℕ) → Does (Copies n) NextFits (nextItem g n old clears k s im)
+  unfolding nextItem readPage onMet leavePage
+  next-does old clears zero s im = record { each = tt; answers = tt }
+  next-does old clears (suc k) (fromAddress a) im =
+      does-bind g (MetOf g n (Whole g im)) im (onMet (nextItem g n old clears k s)) (heads-do (Whole g im) (walkOn g im a .heads) (walk-on-whole g im a) im) (on (next-does old clears k s))
     where
-      on : ((im : List ℕ) → Does (Copies n) NextFits (nextItem g n old k (afterPage p) im))
-          → (m : Met) → MetOf g n (Whole g im) m → (im : List ℕ) → Does (Copies n) NextFits (onMet (nextItem g n old k (afterPage p)) m im)
+      s : Stand
+      s = afterPage (pageOf g a)
+
+      on : ((im : List ℕ) → Does (Copies n) NextFits (nextItem g n old clears k s im))
+          → (m : Met) → MetOf g n (Whole g im) m → (im : List ℕ) → Does (Copies n) NextFits (onMet (nextItem g n old clears k s) m im)
       on f passed v im = f im
       on f (long j) v im = record { each = tt; answers = tt }
       on f (met h) v im = record { each = tt; answers = omega (arith, v .0, v .2) }
-  next-does old (suc k) (afterPage p) im =
+  next-does old clears (suc k) (afterPage p) im =
+      let s : Stand = fromAddress (dataStart g (next g p)) in
       does-cond (same (state g im (next g p)) Corrupted) (λ t. record { each = tt; answers = tt })
       (λ t. does-cond (same (state g im (next g p)) Open || eqb (next g p) old) (λ t. record { each = tt; answers = tt })
-      (λ t. does-bind g {A = Unit {0}} Any im (λ u. nextItem g n old k (onPage (next g p))) (record { each = (tt, tt); answers = tt }) (λ u v. next-does old k (onPage (next g p)))))
+      (λ t. does-bind g {A = Unit {0}} Any im (λ u. nextItem g n old clears k s) (record { each = left-does g (Copies n) clears p (λ t. tt); answers = tt }) (λ u v. next-does old clears k s)))
 
   search-does : (im : List ℕ) → Does (Copies n) (OutFits n) (search g im n)
   unfolding search startStep searchOn nextStep
@@ -98,7 +102,8 @@ module _ (g : Geometry) (n : ℕ) where
       on : (t : Try Unit ℕ) → Tried Any Any t → (im : List ℕ) → Does (Copies n) (OutFits n) (searchOn g n t im)
       on (fails u) v im = record { each = tt; answers = tt }
       on (gives old) v im =
-          does-bind g NextFits im (λ t im₁. plan [] (settled spoilt t)) (does-steps g Any (OutFits n) (nextStep g n old) (λ p. tt) (λ s v. next-does old (2 * g .pages) s) (onPage old) tt im) end
+          does-bind g NextFits im (λ t im₁. plan [] (settled spoilt t))
+          (does-steps g Any (OutFits n) (nextStep g n old true) (λ p. tt) (λ s v. next-does old true (2 * g .pages) s) (fromAddress (dataStart g old)) tt im) end
 
   -- what is shown fits the buffer
   abbrev Shows : Answer → Type 0

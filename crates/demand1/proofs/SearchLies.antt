@@ -1,24 +1,25 @@
 -- Peek and pop on images that are alike: the same plan, and its events lie in the range. Assumes nothing.
 use mathlib.Core.Path.{refl, ap}
-use mathlib.Core.Bool.{not, _||_}
+use mathlib.Core.Bool.{Bool, true, cond, not, _||_}
 use mathlib.Core.List.{List, [], _∷_}
 use Prim.Native.Nat.{ℕ, zero, suc, _+_, _*_, _<_}
 use native.Mathlib.Omega.{arith}
 use lib.Dec.{eqb, ltb}
 use Rattle.paper.specs.declared.Geometry.{Geometry}
 use Rattle.paper.specs.declared.PageState.the-variants.{Open, Corrupted}
-use Rattle.paper.specs.Chip.{roundUp, headerSize, copy, erasePage, Plan, plan, Try, fails, gives, settled}
-use Rattle.paper.specs.Scan.{Head, pageWalk, live, present}
+use Rattle.paper.specs.Chip.{roundUp, headerSize, dataStart, pageOf, copy, erasePage, Plan, plan, Try, fails, gives, settled}
+use Rattle.paper.specs.Scan.{Head, walkOn, live, present}
 use Rattle.paper.specs.Pages.{state, same, next}
-use Rattle.paper.specs.Calls.{Met, passed, long, met, readHeads, Stand, onPage, afterPage, Outcome, nothing, short, this, spoilt, onMet, readPage, leavePage, nextItem, nextStep, startStep, searchOn, search, shownBy, popped, peek, pop}
+use Rattle.paper.specs.Calls.{Met, passed, long, met, readHeads, Stand, fromAddress, afterPage, Outcome, nothing, short, this, spoilt, onMet, readPage, leavePage, nextItem, nextStep, startStep, searchOn, search, shownBy, popped, peek, pop}
 use Rattle.laws.proofs.Accepted.{Laid}
 use Rattle.laws.proofs.Ring.{next-in}
 use Rattle.demand1.specs.Range.{Lies, Each}
+use Rattle.demand1.proofs.Pages.{InData, start-in, walk-on-same}
 use Rattle.demand1.proofs.Walks.{Placed, heads-placed}
-use Rattle.demand1.proofs.Lying.{Alike}
-use Rattle.demand1.proofs.Does.{Tried, Any}
+use Rattle.demand1.proofs.Lying.{Alike, alike-page}
+use Rattle.demand1.proofs.Does.{Tried, Any, left-does}
 use Rattle.demand1.proofs.Searches.{oldest-in}
-use Rattle.demand1.proofs.Both.{Both, both-cond, both-bind, both-then, both-steps, states, walks, oldest-same}
+use Rattle.demand1.proofs.Both.{Both, both-cond, both-bind, both-then, both-steps, states, oldest-same}
 use Rattle.demand1.proofs.Writes.{header-lies}
 
 abbrev MetPlaced : Geometry → Met → Type 0
@@ -33,7 +34,7 @@ OutPlaced g (this h) = Placed g h
 OutPlaced g spoilt = Unit {0}
 
 abbrev StandIn : Geometry → Stand → Type 0
-StandIn g (onPage p) = p < g .pages
+StandIn g (fromAddress a) = InData g a
 StandIn g (afterPage p) = p < g .pages
 
 -- b is the buffer's size
@@ -53,39 +54,43 @@ module _ {g : Geometry} {n : ℕ} (S : Laid g n) (b : ℕ) where
   abbrev NextFine : Try Stand Outcome → Type 0
   NextFine = Tried (StandIn g) (OutPlaced g)
 
-  both-read : (p : ℕ) → p < g .pages → (further : List ℕ → Plan (Try Stand Outcome)) → ((im jm : List ℕ) → Alike g n im jm → Both g NextFine (further im) (further jm))
-      → (im jm : List ℕ) → Alike g n im jm → Both g NextFine (readPage g b p further im) (readPage g b p further jm)
+  both-read : (a : ℕ) → InData g a → (further : List ℕ → Plan (Try Stand Outcome)) → ((im jm : List ℕ) → Alike g n im jm → Both g NextFine (further im) (further jm))
+      → (im jm : List ℕ) → Alike g n im jm → Both g NextFine (readPage g b a further im) (readPage g b a further jm)
   unfolding readPage onMet
-  both-read p h further f im jm L =
-      rw (← walks S L p h)
-      (both-bind S (MetPlaced g) im jm (onMet further) L (both-heads (pageWalk g im p .heads) (heads-placed S im (L .long) p h) im jm L) on)
+  both-read a I further f im jm L =
+      rw (← walk-on-same S im jm a I (alike-page S im jm L (pageOf g a) (I .page)))
+      (both-bind S (MetPlaced g) im jm (onMet further) L (both-heads (walkOn g im a .heads) (heads-placed S im (L .long) a I) im jm L) on)
     where
       on : (m : Met) → MetPlaced g m → (im jm : List ℕ) → Alike g n im jm → Both g NextFine (onMet further m im) (onMet further m jm)
       on passed v im jm L = f im jm L
       on (long k) v im jm L = record { one = refl; lies = tt; fine = tt }
       on (met x) v im jm L = record { one = refl; lies = tt; fine = v }
 
-  both-leave : (old p : ℕ) → p < g .pages → (further : List ℕ → Plan (Try Stand Outcome)) → ((im jm : List ℕ) → Alike g n im jm → Both g NextFine (further im) (further jm))
-      → (im jm : List ℕ) → Alike g n im jm → Both g NextFine (leavePage g old p further im) (leavePage g old p further jm)
-  unfolding leavePage erasePage
-  both-leave old p h further f im jm L =
+  both-leave : (old : ℕ) (clears : Bool) (p : ℕ) → p < g .pages → (further : List ℕ → Plan (Try Stand Outcome)) → ((im jm : List ℕ) → Alike g n im jm → Both g NextFine (further im) (further jm))
+      → (im jm : List ℕ) → Alike g n im jm → Both g NextFine (leavePage g old clears p further im) (leavePage g old clears p further jm)
+  unfolding leavePage
+  both-leave old clears p h further f im jm L =
       rw (← states S L (next g p) (next-in g p h))
       (both-cond (same (state g im (next g p)) Corrupted) (λ t. record { one = refl; lies = tt; fine = h })
       (λ t. both-cond (same (state g im (next g p)) Open || eqb (next g p) old) (λ t. record { one = refl; lies = tt; fine = tt })
-      (λ t. both-then S im jm (erasePage g p) further L (h, tt) f)))
+      (λ t. both-then S im jm (cond clears (erasePage g p) []) further L (left-does g (Lies g) clears p (λ t. h)) f)))
 
-  both-next : (old k : ℕ) (s : Stand) → StandIn g s → (im jm : List ℕ) → Alike g n im jm → Both g NextFine (nextItem g b old k s im) (nextItem g b old k s jm)
+  both-next : (old : ℕ) (clears : Bool) (k : ℕ) (s : Stand) → StandIn g s → (im jm : List ℕ) → Alike g n im jm
+      → Both g NextFine (nextItem g b old clears k s im) (nextItem g b old clears k s jm)
   unfolding nextItem
-  both-next old zero s h im jm L = record { one = refl; lies = tt; fine = tt }
-  both-next old (suc k) (onPage p) h im jm L = both-read p h (nextItem g b old k (afterPage p)) (both-next old k (afterPage p) h) im jm L
-  both-next old (suc k) (afterPage p) h im jm L =
-      both-leave old p h (nextItem g b old k (onPage (next g p))) (both-next old k (onPage (next g p)) (next-in g p h)) im jm L
+  both-next old clears zero s h im jm L = record { one = refl; lies = tt; fine = tt }
+  both-next old clears (suc k) (fromAddress a) I im jm L =
+      both-read a I (nextItem g b old clears k (afterPage (pageOf g a))) (both-next old clears k (afterPage (pageOf g a)) (I .page)) im jm L
+  both-next old clears (suc k) (afterPage p) h im jm L =
+      let s : Stand = fromAddress (dataStart g (next g p)) in
+      both-leave old clears p h (nextItem g b old clears k s) (both-next old clears k s (start-in S (next g p) (next-in g p h))) im jm L
 
   both-on : (t : Try Unit ℕ) → Tried Any (λ p. p < g .pages) t → (im jm : List ℕ) → Alike g n im jm → Both g (OutPlaced g) (searchOn g b t im) (searchOn g b t jm)
   unfolding searchOn nextStep
   both-on (fails u) h im jm L = record { one = refl; lies = tt; fine = tt }
   both-on (gives old) h im jm L =
-      both-bind S NextFine im jm (λ t im₁. plan [] (settled spoilt t)) L (both-steps S (StandIn g) (OutPlaced g) (nextStep g b old) (both-next old (2 * g .pages)) (onPage old) h im jm L) end
+      both-bind S NextFine im jm (λ t im₁. plan [] (settled spoilt t)) L
+      (both-steps S (StandIn g) (OutPlaced g) (nextStep g b old true) (both-next old true (2 * g .pages)) (fromAddress (dataStart g old)) (start-in S old h) im jm L) end
     where
       end : (t : Try Stand Outcome) → NextFine t → (im jm : List ℕ) → Alike g n im jm → Both g (OutPlaced g) (plan [] (settled spoilt t)) (plan [] (settled spoilt t))
       end (fails s) v im jm L = record { one = refl; lies = tt; fine = tt }

@@ -1,6 +1,6 @@
 -- A search from the oldest page goes its way to the end: stuck before a Corrupted page, it ends there after the repair. Assumes nothing.
 use mathlib.Core.Path.{_≡_, refl, sym, ap, _∙_, subst}
-use mathlib.Core.Bool.{true}
+use mathlib.Core.Bool.{Bool, true}
 use mathlib.Core.List.{List, [], _++_}
 use mathlib.Core.Logic.{_⊎_, inl, inr}
 use Prim.Native.Nat.{ℕ, suc, _-_, _*_, _<_}
@@ -9,9 +9,9 @@ use lib.ListN.{length}
 use Rattle.paper.specs.declared.Geometry.{Geometry}
 use Rattle.paper.specs.declared.PageState.{PageState}
 use Rattle.paper.specs.declared.PageState.the-variants.{Open, Corrupted}
-use Rattle.paper.specs.Chip.{pageBytes, Event, imageAfter, Plan, plan, bind, Try, gives, settled}
+use Rattle.paper.specs.Chip.{dataStart, pageBytes, Event, imageAfter, Plan, plan, bind, Try, gives, settled}
 use Rattle.paper.specs.Pages.{state, same, next, around, from, oldest, repair}
-use Rattle.paper.specs.Calls.{long, Stand, onPage, afterPage, Outcome, nothing, spoilt, leavePage, nextItem, nextStep, withRepair, searchOn}
+use Rattle.paper.specs.Calls.{long, Stand, fromAddress, afterPage, Outcome, nothing, spoilt, leavePage, nextItem, nextStep, withRepair, searchOn}
 use Rattle.laws.proofs.Accepted.{Laid}
 use Rattle.laws.proofs.Marks.{same-is}
 use Rattle.laws.proofs.Ring.{next-in, turn-zero}
@@ -35,11 +35,12 @@ module _ {g : Geometry} {n : ℕ} (S : Laid g n) (im : List ℕ) (b old : ℕ) (
     safe = old-sound g im (S .some) old e;
   }
 
-  step-comes : length im ≡ n → oldest g im ≡ gives old → Comes S im b old ho (onTheWay g im old (from g old)) im (nextStep g b old (onPage old) im)
+  step-comes : (clears : Bool) → length im ≡ n → oldest g im ≡ gives old
+      → Comes S im b old ho (onTheWay g im old (from g old)) im (nextStep g b old clears (fromAddress (dataStart g old)) im)
   unfolding nextStep from
-  step-comes size e =
-      subst (λ (p : ℕ). Comes S im b old ho (onTheWay g im old (around g (g .pages) p)) im (nextItem g b old (2 * g .pages) (onPage p) im)) (turn-zero g old ho)
-      (ways S im b old ho (g .pages) 0 (omega arith) im (begins size e))
+  step-comes clears size e =
+      subst (λ (p : ℕ). Comes S im b old ho (onTheWay g im old (around g (g .pages) p)) im (nextItem g b old clears (2 * g .pages) (fromAddress (dataStart g p)) im))
+      (turn-zero g old ho) (ways S im b old ho clears (g .pages) 0 (omega arith) im (begins size e))
 
   -- what is Corrupted later was so from the start
   repair-clears : (cur : List ℕ) → Known S im b old ho cur → Each (Clears g im) (repair g cur)
@@ -57,9 +58,9 @@ module _ {g : Geometry} {n : ℕ} (S : Laid g n) (im : List ℕ) (b old : ℕ) (
       by (opened a o) = o
       by (kept a e) = let s = ap (λ (x : PageState). same x Corrupted) c in never (cc)
 
-  stops-open : (jm : List ℕ) (q : ℕ) → state g jm (next g q) ≡ Open → nextStep g b old (afterPage q) jm ≡ plan [] (gives nothing)
+  stops-open : (clears : Bool) (jm : List ℕ) (q : ℕ) → state g jm (next g q) ≡ Open → nextStep g b old clears (afterPage q) jm ≡ plan [] (gives nothing)
   unfolding nextStep nextItem leavePage
-  stops-open jm q o =
+  stops-open clears jm q o =
       let z : 2 * g .pages ≡ suc (2 * g .pages - 1) = omega (arith, S .some) in
       rw (z, o)
 
@@ -72,19 +73,25 @@ module _ {g : Geometry} {n : ℕ} (S : Laid g n) (im : List ℕ) (b old : ℕ) (
   unfolding searchOn bind
   search-went size e = by (C .came)
     where
-      C : Comes S im b old ho (onTheWay g im old (from g old)) im (nextStep g b old (onPage old) im)
-      C = step-comes size e
+      step : Stand → List ℕ → Plan (Try Stand Outcome)
+      step = nextStep g b old true
 
-      settle : {es : List Event} {t : Try Stand Outcome} → withRepair g (nextStep g b old) (onPage old) im ≡ plan es t → Each (Clears g im) es
+      at : Stand
+      at = fromAddress (dataStart g old)
+
+      C : Comes S im b old ho (onTheWay g im old (from g old)) im (nextStep g b old true (fromAddress (dataStart g old)) im)
+      C = step-comes true size e
+
+      settle : {es : List Event} {t : Try Stand Outcome} → withRepair g step at im ≡ plan es t → Each (Clears g im) es
           → settled spoilt t ≡ outcome (meet g b (onTheWay g im old (from g old))) → Went (searchOn g b (gives old) im)
       settle {es} {t} q f a = rw q (record { clears = each-append (Clears g im) es [] f tt; answered = a })
 
-      by : Came S im b old ho (onTheWay g im old (from g old)) im (nextStep g b old (onPage old) im) → Went (searchOn g b (gives old) im)
-      by (ends a) = settle (steps-gives g (nextStep g b old) (onPage old) im a) (C .clears) refl
+      by : Came S im b old ho (onTheWay g im old (from g old)) im (step at im) → Went (searchOn g b (gives old) im)
+      by (ends a) = settle (steps-gives g step at im a) (C .clears) refl
       by (stuck q h a m s K) =
-          let es : List Event = nextStep g b old (onPage old) im .events in
+          let es : List Event = step at im .events in
           let j : List ℕ = imageAfter g es im in
-          let l = stops-open (repaired g j) q (repaired-open j (K .long) (next g q) (next-in g q h) s) in
-          settle (steps-fails g (nextStep g b old) (onPage old) im a ∙ ap (λ (p : Plan (Try Stand Outcome)). plan (es ++ (repair g j ++ p .events)) (p .answer)) l)
+          let l = stops-open true (repaired g j) q (repaired-open j (K .long) (next g q) (next-in g q h) s) in
+          settle (steps-fails g step at im a ∙ ap (λ (p : Plan (Try Stand Outcome)). plan (es ++ (repair g j ++ p .events)) (p .answer)) l)
           (each-append (Clears g im) es (repair g j ++ []) (C .clears) (each-append (Clears g im) (repair g j) [] (repair-clears j K) tt))
           (sym (ap outcome m))

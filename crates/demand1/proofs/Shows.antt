@@ -9,16 +9,16 @@ use lib.ListN.{length, take, drop}
 use lib.Seq.{take-take, take-append-le}
 use Rattle.paper.specs.declared.Geometry.{Geometry}
 use Rattle.paper.specs.declared.PageState.the-variants.{Open, Corrupted}
-use Rattle.paper.specs.Chip.{roundUp, headerSize, part, Event, copy, put, erasePage, imageBy, imageAfter, bufferBy, bufferAfter, Plan, plan, bind, andThen, Try, fails, gives, settled}
+use Rattle.paper.specs.Chip.{roundUp, headerSize, dataStart, pageOf, part, Event, copy, put, erasePage, imageBy, imageAfter, bufferBy, bufferAfter, Plan, plan, bind, andThen, Try, fails, gives, settled}
 use Rattle.paper.specs.Slip.{encode}
-use Rattle.paper.specs.Scan.{Head, pageWalk, live, present}
+use Rattle.paper.specs.Scan.{Head, walkOn, live, present}
 use Rattle.paper.specs.Pages.{state, same, next, repair}
-use Rattle.paper.specs.Calls.{Met, passed, long, met, readHeads, Stand, onPage, afterPage, Outcome, nothing, this, spoilt, onMet, readPage, leavePage, nextItem, nextStep, retry, withRepair, startStep, searchOn, search, popped, peek, pop}
+use Rattle.paper.specs.Calls.{Met, passed, long, met, readHeads, Stand, fromAddress, afterPage, Outcome, nothing, this, spoilt, onMet, readPage, leavePage, nextItem, nextStep, retry, withRepair, startStep, searchOn, search, popped, peek, pop}
 use Rattle.laws.proofs.Parts.{length-part}
 use Rattle.demand1.specs.Range.{Each}
 use Rattle.demand1.specs.Buffers.{Copies}
 use Rattle.demand1.proofs.Lists.{each-append, never}
-use Rattle.demand1.proofs.Items.{Whole, page-whole}
+use Rattle.demand1.proofs.Items.{Whole, walk-on-whole}
 use Rattle.demand1.proofs.Does.{writes-store}
 use Rattle.demand1.proofs.Tails.{tail-stays}
 
@@ -78,52 +78,61 @@ module _ (g : Geometry) (b : ℕ) where
   abbrev Ends : List ℕ → Plan (Try Stand Outcome) → Type 0
   Ends im p = (h : Head) → p .answer ≡ gives (this h) → Lasts g h im (p .events)
 
-  read-ends : (p : ℕ) (further : List ℕ → Plan (Try Stand Outcome)) → ((im : List ℕ) → Ends im (further im)) → (im : List ℕ) → Ends im (readPage g b p further im)
+  read-ends : (a : ℕ) (further : List ℕ → Plan (Try Stand Outcome)) → ((im : List ℕ) → Ends im (further im)) → (im : List ℕ) → Ends im (readPage g b a further im)
   unfolding readPage bind onMet
-  read-ends p further f im h = by (readHeads g b (pageWalk g im p .heads) im .answer) refl
+  read-ends a further f im h = by (readHeads g b (walkOn g im a .heads) im .answer) refl
     where
       r : Plan Met
-      r = readHeads g b (pageWalk g im p .heads) im
+      r = readHeads g b (walkOn g im a .heads) im
 
       i : List ℕ
-      i = imageAfter g (readHeads g b (pageWalk g im p .heads) im .events) im
+      i = imageAfter g (readHeads g b (walkOn g im a .heads) im .events) im
 
-      by : (m : Met) → readHeads g b (pageWalk g im p .heads) im .answer ≡ m → onMet further m i .answer ≡ gives (this h)
-          → Lasts g h im (readHeads g b (pageWalk g im p .heads) im .events ++ onMet further m i .events)
+      by : (m : Met) → readHeads g b (walkOn g im a .heads) im .answer ≡ m → onMet further m i .answer ≡ gives (this h)
+          → Lasts g h im (readHeads g b (walkOn g im a .heads) im .events ++ onMet further m i .events)
       by passed q e = lasts-behind (r .events) (further i .events) im (f i h e)
       by (long k) q e = never (cc)
-      by (met x) q e = let z : x ≡ h = cc in lasts-before [] tt (heads-last (pageWalk g im p .heads) im (page-whole g im p) h (q ∙ ap met z))
+      by (met x) q e = let z : x ≡ h = cc in lasts-before [] tt (heads-last (walkOn g im a .heads) im (walk-on-whole g im a) h (q ∙ ap met z))
 
-  leave-ends : (old p : ℕ) (further : List ℕ → Plan (Try Stand Outcome)) → ((im : List ℕ) → Ends im (further im)) → (im : List ℕ) → Ends im (leavePage g old p further im)
+  leave-ends : (old : ℕ) (clears : Bool) (p : ℕ) (further : List ℕ → Plan (Try Stand Outcome)) → ((im : List ℕ) → Ends im (further im)) → (im : List ℕ)
+      → Ends im (leavePage g old clears p further im)
   unfolding leavePage bind
-  leave-ends old p further f im h = by (same (state g im (next g p)) Corrupted) (same (state g im (next g p)) Open || eqb (next g p) old)
-    where
-      by : (s t : Bool) → cond s (plan [] (fails (afterPage p))) (cond t (plan [] (gives nothing)) (andThen g im (erasePage g p) further)) .answer ≡ gives (this h)
-          → Lasts g h im (cond s (plan [] (fails (afterPage p))) (cond t (plan [] (gives nothing)) (andThen g im (erasePage g p) further)) .events)
-      by true t e = never (cc)
-      by false true e = never (cc)
-      by false false e = lasts-behind (erasePage g p) (further (imageAfter g (erasePage g p) im) .events) im (f (imageAfter g (erasePage g p) im) h e)
-
-  next-ends : (old k : ℕ) (s : Stand) (im : List ℕ) → Ends im (nextItem g b old k s im)
-  unfolding nextItem
-  next-ends old zero s im h e = never (cc)
-  next-ends old (suc k) (onPage p) im h e = read-ends p (nextItem g b old k (afterPage p)) (next-ends old k (afterPage p)) im h e
-  next-ends old (suc k) (afterPage p) im h e = leave-ends old p (nextItem g b old k (onPage (next g p))) (next-ends old k (onPage (next g p))) im h e
-
-  steps-end : (old : ℕ) (s : Stand) (im : List ℕ) → Ends im (withRepair g (nextStep g b old) s im)
-  unfolding withRepair retry bind nextStep
-  steps-end old s im h = by (nextStep g b old s im .answer) refl
+  leave-ends old clears p further f im h = by (same (state g im (next g p)) Corrupted) (same (state g im (next g p)) Open || eqb (next g p) old)
     where
       es : List Event
-      es = nextStep g b old s im .events
+      es = cond clears (erasePage g p) []
 
-      i : List ℕ
-      i = imageAfter g (nextStep g b old s im .events) im
+      by : (s t : Bool) → cond s (plan [] (fails (afterPage p))) (cond t (plan [] (gives nothing)) (andThen g im es further)) .answer ≡ gives (this h)
+          → Lasts g h im (cond s (plan [] (fails (afterPage p))) (cond t (plan [] (gives nothing)) (andThen g im es further)) .events)
+      by true t e = never (cc)
+      by false true e = never (cc)
+      by false false e = lasts-behind es (further (imageAfter g es im) .events) im (f (imageAfter g es im) h e)
 
-      by : (t : Try Stand Outcome) → nextStep g b old s im .answer ≡ t → retry g (nextStep g b old) t i .answer ≡ gives (this h)
-          → Lasts g h im (nextStep g b old s im .events ++ retry g (nextStep g b old) t i .events)
-      by (gives o) q e = lasts-before [] tt (next-ends old (2 * g .pages) s im h (q ∙ e))
-      by (fails v) q e = lasts-behind es _ im (lasts-behind (repair g i) _ i (next-ends old (2 * g .pages) v (imageAfter g (repair g i) i) h e))
+  module _ (old : ℕ) (clears : Bool) where
+    next-ends : (k : ℕ) (s : Stand) (im : List ℕ) → Ends im (nextItem g b old clears k s im)
+    unfolding nextItem
+    next-ends zero s im h e = never (cc)
+    next-ends (suc k) (fromAddress a) im h e = let s : Stand = afterPage (pageOf g a) in read-ends a (nextItem g b old clears k s) (next-ends k s) im h e
+    next-ends (suc k) (afterPage p) im h e =
+        let s : Stand = fromAddress (dataStart g (next g p)) in
+        leave-ends old clears p (nextItem g b old clears k s) (next-ends k s) im h e
+
+    abbrev step : Stand → List ℕ → Plan (Try Stand Outcome)
+    step = nextStep g b old clears
+
+    steps-end : (s : Stand) (im : List ℕ) → Ends im (withRepair g step s im)
+    unfolding withRepair retry bind nextStep
+    steps-end s im h = by (step s im .answer) refl
+      where
+        es : List Event
+        es = step s im .events
+
+        i : List ℕ
+        i = imageAfter g (step s im .events) im
+
+        by : (t : Try Stand Outcome) → step s im .answer ≡ t → retry g step t i .answer ≡ gives (this h) → Lasts g h im (step s im .events ++ retry g step t i .events)
+        by (gives o) q e = lasts-before [] tt (next-ends (2 * g .pages) s im h (q ∙ e))
+        by (fails v) q e = lasts-behind es _ im (lasts-behind (repair g i) _ i (next-ends (2 * g .pages) v (imageAfter g (repair g i) i) h e))
 
   search-last : (im : List ℕ) (h : Head) → search g im b .answer ≡ this h → Lasts g h im (search g im b .events)
   unfolding search bind searchOn
@@ -137,12 +146,14 @@ module _ (g : Geometry) (b : ℕ) where
 
       by : (t : Try Unit ℕ) → searchOn g b t i .answer ≡ this h → Lasts g h im (withRepair g (startStep g) tt im .events ++ searchOn g b t i .events)
       by (fails u) e = never (cc)
-      by (gives old) e = lasts-behind es _ im (on (withRepair g (nextStep g b old) (onPage old) i .answer) refl e)
+      by (gives old) e = lasts-behind es _ im (on (withRepair g (step old true) s i .answer) refl e)
         where
-          on : (t : Try Stand Outcome) → withRepair g (nextStep g b old) (onPage old) i .answer ≡ t → settled spoilt t ≡ this h
-              → Lasts g h i (withRepair g (nextStep g b old) (onPage old) i .events ++ [])
-          on (fails s) q e = never (cc)
-          on (gives o) q e = lasts-before [] tt (steps-end old (onPage old) i h (q ∙ ap gives e))
+          s : Stand
+          s = fromAddress (dataStart g old)
+
+          on : (t : Try Stand Outcome) → withRepair g (step old true) s i .answer ≡ t → settled spoilt t ≡ this h → Lasts g h i (withRepair g (step old true) s i .events ++ [])
+          on (fails v) q e = never (cc)
+          on (gives o) q e = lasts-before [] tt (steps-end old true s i h (q ∙ ap gives e))
 
   -- ---- the call
 

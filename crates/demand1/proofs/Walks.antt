@@ -8,9 +8,9 @@ use native.Mathlib.Omega.{arith}
 use borrow.Author.Tests.{leb-true}
 use lib.ListN.{length}
 use Rattle.paper.specs.declared.Geometry.{Geometry}
-use Rattle.paper.specs.Chip.{roundUp, roundDown, headerSize, pageStart, dataStart, dataSize, dataEnd, pageData, part}
+use Rattle.paper.specs.Chip.{roundUp, roundDown, headerSize, pageStart, dataStart, dataSize, dataEnd, pageOf, pageData, part}
 use Rattle.paper.specs.Slip.{Look, stop, bad, item, look}
-use Rattle.paper.specs.Scan.{Head, Walk, onward, walk, pageWalk, freeSpot, serves}
+use Rattle.paper.specs.Scan.{Head, Walk, onward, walk, pageWalk, walkOn, freeSpot, serves}
 use Rattle.laws.proofs.Accepted.{Laid}
 use Rattle.laws.proofs.Parts.{length-part}
 use Rattle.laws.proofs.Places.{page-in}
@@ -18,7 +18,7 @@ use Rattle.laws.proofs.Rounding.{round-up-ge, round-up-behind, round-down-le}
 use Rattle.demand1.specs.Range.{Each}
 use Rattle.demand1.proofs.Lists.{each-weaker}
 use Rattle.demand1.proofs.Items.{look-room}
-use Rattle.demand1.proofs.Pages.{layout, round-up-whole, header-whole}
+use Rattle.demand1.proofs.Pages.{layout, InData, round-up-whole, header-whole}
 
 -- ---- the header's size
 
@@ -91,23 +91,27 @@ abbrev pub Placed : Geometry → Head → Type 0
 Placed g h = Room g (h .place) (h .len)
 
 module _ {g : Geometry} {n : ℕ} (S : Laid g n) (im : List ℕ) (long : length im ≡ n) (p : ℕ) (h : p < g .pages) where
+  -- from address a to the end of the data
+  end-walked : (a : ℕ) → g .word ∣ a → dataStart g p ≤ a → a ≤ dataEnd g p → Walked g a (dataEnd g p) (walk g 0 a (part a (dataEnd g p - a) im))
+  end-walked a v l k =
+      let L = layout S p in
+      let m : ℕ = dataEnd g p - a in
+      walked g (S .low) a (dataEnd g p) (L .end-whole) 0 a (part a m im) (omega arith)
+      (ap (λ (x : ℕ). a + x) (length-part a m im (omega (arith, page-in g p h, S .ends))) ∙ omega arith)
+      (moved (g .word) a (a + 0) (sym (add-zero a)) v)
+
   page-walked : Walked g (dataStart g p) (dataEnd g p) (pageWalk g im p)
   unfolding pageWalk pageData
   page-walked =
       let L = layout S p in
-      walked g (S .low) (dataStart g p) (dataEnd g p) (L .end-whole) 0 (dataStart g p) (part (dataStart g p) (dataSize g) im) (omega arith)
-      (ap (λ (x : ℕ). dataStart g p + x) (length-part (dataStart g p) (dataSize g) im (omega (arith, page-in g p h, S .ends))) ∙ omega arith)
-      (moved (g .word) (dataStart g p) (dataStart g p + 0) (sym (add-zero (dataStart g p))) (L .data-whole))
+      let z : dataSize g ≡ dataEnd g p - dataStart g p = omega arith in
+      rw z (end-walked (dataStart g p) (L .data-whole) (omega arith) (omega arith))
 
   -- a header's room, and the spot's
   room-in : (a m : ℕ) → g .word ∣ a → dataStart g p ≤ a → a + (headerSize g + roundUp (g .word) m) ≤ dataEnd g p → Room g a m
   room-in a m v l k =
       let L = layout S p in
       record { aligned = v; low = omega arith; high = omega (arith, page-in g p h) }
-
-  pub heads-placed : Each (Placed g) (pageWalk g im p .heads)
-  heads-placed = each-weaker (Stands g (dataStart g p) (dataEnd g p)) (Placed g)
-      (λ x s. room-in (x .place) (x .len) (s .aligned) (s .low) (s .high)) (pageWalk g im p .heads) (page-walked .heads-stand)
 
   pub spot-room : (m : ℕ) → serves g (pageWalk g im p .rest) m ≡ true → Room g (freeSpot g im p) m
   unfolding serves freeSpot
@@ -120,3 +124,11 @@ module _ {g : Geometry} {n : ℕ} (S : Laid g n) (im : List ℕ) (long : length 
 
   pub page-room : (m : ℕ) → headerSize g + roundUp (g .word) m ≤ dataSize g → Room g (dataStart g p) m
   page-room m k = let L = layout S p in room-in (dataStart g p) m (L .data-whole) (omega arith) (omega arith)
+
+-- the headers from an address in a page's data on
+pub heads-placed : {g : Geometry} {n : ℕ} → Laid g n → (im : List ℕ) → length im ≡ n → (a : ℕ) → InData g a → Each (Placed g) (walkOn g im a .heads)
+unfolding walkOn
+heads-placed {g} S im long a I =
+    let p : ℕ = pageOf g a in
+    each-weaker (Stands g a (dataEnd g p)) (Placed g) (λ x s. room-in S im long p (I .page) (x .place) (x .len) (s .aligned) (omega (arith, I .low, s .low)) (s .high))
+    (walkOn g im a .heads) (end-walked S im long p (I .page) a (I .aligned) (I .low) (I .high) .heads-stand)

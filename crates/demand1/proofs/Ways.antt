@@ -10,19 +10,21 @@ use lib.Dec.{eqb}
 use lib.ListN.{length}
 use Rattle.paper.specs.declared.Geometry.{Geometry}
 use Rattle.paper.specs.declared.PageState.the-variants.{Open, Corrupted}
-use Rattle.paper.specs.Chip.{pageBytes, Event, store, erase, copy, erasePage, imageBy, imageAfter, Plan, plan, bind, andThen, Try, fails, gives}
-use Rattle.paper.specs.Scan.{Head, pageWalk, payloads}
+use Rattle.paper.specs.Chip.{dataStart, pageOf, pageBytes, Event, store, erase, copy, erasePage, imageBy, imageAfter, Plan, plan, bind, andThen, Try, fails, gives}
+use Rattle.paper.specs.Scan.{Head, pageWalk, walkOn, payloads}
 use Rattle.paper.specs.Pages.{state, same, next, around}
-use Rattle.paper.specs.Calls.{Met, passed, long, met, readHeads, Stand, onPage, afterPage, Outcome, nothing, short, this, onMet, readPage, leavePage, nextItem}
+use Rattle.paper.specs.Calls.{Met, passed, long, met, readHeads, Stand, fromAddress, afterPage, Outcome, nothing, short, this, onMet, readPage, leavePage, nextItem}
 use Rattle.laws.proofs.Accepted.{Laid}
 use Rattle.laws.proofs.Events.{image-append}
 use Rattle.laws.proofs.Marks.{same-is}
 use Rattle.laws.proofs.Ring.{turn, turn-full, turn-lt, turn-once, next-turn}
 use Rattle.laws.proofs.Sides.{Apart, is, differs, apart}
+use Rattle.laws.proofs.Standing.{page-of-start, walk-on-start}
 use Rattle.demand1.specs.Range.{Each}
 use Rattle.demand1.specs.Rows.{onTheWay}
 use Rattle.demand1.proofs.Lists.{each-append, each-weaker, never}
-use Rattle.demand1.proofs.Pages.{state-same, walk-same}
+use Rattle.demand1.proofs.Pages.{InData, inner, start-in, state-same, walk-on-same}
+use Rattle.demand1.proofs.Does.{left-does}
 use Rattle.demand1.proofs.Frames.{erase-long, erase-other, erase-open}
 use Rattle.demand1.proofs.Meets.{Copied, copied-image, heads-copied, meet, meets, thenMeet, meet-append, passed-payloads, Meets, all, tooLong, seen, meet-is}
 
@@ -99,6 +101,15 @@ module _ {g : Geometry} {n : ℕ} (S : Laid g n) (im : List ℕ) (b old : ℕ) (
 
   -- ---- leaving a page
 
+  -- a page that is left is erased, or stays as it is
+  abbrev left : Bool → ℕ → List Event
+  left clears p = cond clears (erasePage g p) []
+
+  left-ahead : (clears : Bool) (i : ℕ) → i < g .pages → (cur : List ℕ) → Ahead i cur → Ahead (suc i) (imageAfter g (left clears (turn g old i)) cur)
+  unfolding imageAfter erasePage
+  left-ahead true i k cur A = erase-ahead i k cur A
+  left-ahead false i k cur A = record { known = A .known; fresh = λ j l r. A .fresh j (omega arith) r; safe = A .safe }
+
   -- the next page: the oldest one again, or as it was
   data Next (cur : List ℕ) (q : ℕ) : Type 0 where
     round : q ≡ old → same (state g cur q) Corrupted ≡ false → Next cur q
@@ -117,29 +128,35 @@ module _ {g : Geometry} {n : ℕ} (S : Laid g n) (im : List ℕ) (b old : ℕ) (
   abbrev stops : List ℕ → ℕ → Bool
   stops jm q = same (state g jm q) Open || same (state g jm q) Corrupted || eqb q old
 
-  come-leave : (p : ℕ) (h : p < g .pages) (cur : List ℕ) (further : List ℕ → Plan (Try Stand Outcome)) (later : List Head) → Known cur → Next cur (next g p)
-      → payloads (pageWalk g im p .heads) ≡ [] → Comes later (imageBy g (erase p) cur) (further (imageBy g (erase p) cur))
-      → Comes (cond (stops im (next g p)) [] later) cur (leavePage g old p further cur)
-  unfolding leavePage meet bind imageAfter erasePage
-  come-leave p h cur further later K (round e c) none C =
+  come-leave : (clears : Bool) (p : ℕ) (h : p < g .pages) (cur : List ℕ) (further : List ℕ → Plan (Try Stand Outcome)) (later : List Head) → Known cur → Next cur (next g p)
+      → (clears ≡ true → payloads (pageWalk g im p .heads) ≡ []) → (let i = imageAfter g (left clears p) cur in Comes later i (further i))
+      → Comes (cond (stops im (next g p)) [] later) cur (leavePage g old clears p further cur)
+  unfolding leavePage meet bind imageAfter
+  come-leave clears p h cur further later K (round e c) none C =
       rw (c, eq-eqb (next g p) old e, or-true (same (state g im (next g p)) Open || same (state g im (next g p)) Corrupted), or-true (same (state g cur (next g p)) Open))
       (record { clears = tt; came = ends refl })
-  come-leave p h cur further later K (onward e) none C = rw e (by (same (state g im (next g p)) Open) (same (state g im (next g p)) Corrupted) (eqb (next g p) old) refl)
+  come-leave clears p h cur further later K (onward e) none C = rw e (by (same (state g im (next g p)) Open) (same (state g im (next g p)) Corrupted) (eqb (next g p) old) refl)
     where
       quiet : Known (imageAfter g [] cur)
       quiet = K
 
-      turned : Came later (imageBy g (erase p) cur) (further (imageBy g (erase p) cur)) → Came later cur (andThen g cur (erasePage g p) further)
+      es : List Event
+      es = left clears p
+
+      i : List ℕ
+      i = imageAfter g (left clears p) cur
+
+      turned : Came later i (further i) → Came later cur (andThen g cur es further)
       turned (ends q) = ends q
-      turned (stuck q k a m s K) = stuck q k a m s K
+      turned (stuck q k a m s K) = let z = image-append g es (further i .events) cur in stuck q k a m (rw z s) (rw z K)
 
       by : (o c r : Bool) → same (state g im (next g p)) Corrupted ≡ c
-          → Comes (cond (o || c || r) [] later) cur (cond c (plan [] (fails (afterPage p))) (cond (o || r) (plan [] (gives nothing)) (andThen g cur (erasePage g p) further)))
+          → Comes (cond (o || c || r) [] later) cur (cond c (plan [] (fails (afterPage p))) (cond (o || r) (plan [] (gives nothing)) (andThen g cur es further)))
       by true true r q = record { clears = tt; came = stuck p h refl refl (e ∙ same-is (state g im (next g p)) Corrupted q) quiet }
       by false true r q = record { clears = tt; came = stuck p h refl refl (e ∙ same-is (state g im (next g p)) Corrupted q) quiet }
       by true false r q = record { clears = tt; came = ends refl }
       by false false true q = record { clears = tt; came = ends refl }
-      by false false false q = record { clears = ((h, inr none), C .clears); came = turned (C .came) }
+      by false false false q = record { clears = each-append (Clears g im) es (further i .events) (left-does g (Clears g im) clears p (λ t. (h, inr (none t)))) (C .clears); came = turned (C .came) }
 
   -- ---- reading a page
 
@@ -187,16 +204,30 @@ module _ {g : Geometry} {n : ℕ} (S : Laid g n) (im : List ℕ) (b old : ℕ) (
 
   -- ---- all the way
 
-  pub ways : (k i : ℕ) → i + k ≡ g .pages → (cur : List ℕ) → Ahead i cur
-      → Comes (onTheWay g im old (around g k (turn g old i))) cur (nextItem g b old (2 * k) (onPage (turn g old i)) cur)
-  unfolding onTheWay around nextItem readPage meet
-  ways zero i e cur A = record { clears = tt; came = ends refl }
-  ways (suc k) i e cur A =
-      let p : ℕ = turn g old i in
-      let h : i < g .pages = omega arith in
-      let z : 2 * suc k ≡ suc (suc (2 * k)) = omega arith in
-      let nx = next-turn g old i ho h in
-      rw (z, walk-same S cur im p (A .fresh i (omega arith) h))
-      (come-heads (pageWalk g im p .heads) cur (leavePage g old p (nextItem g b old (2 * k) (onPage (next g p)))) _
-      (λ none. come-leave p (turn-lt g old i ho (omega arith)) cur (nextItem g b old (2 * k) (onPage (next g p))) _ (A .known) (next-page i k cur e A) none
-      (rw nx (ways k (suc i) (omega arith) (imageBy g (erase p) cur) (erase-ahead i h cur A)))))
+  module _ (clears : Bool) where
+    -- the i-th page is read from address a on, and left
+    come-page : (m k i : ℕ) → i + suc k ≡ g .pages → (cur : List ℕ) → Ahead i cur → (a : ℕ) → InData g a → pageOf g a ≡ turn g old i
+        → (clears ≡ true → payloads (walkOn g im a .heads) ≡ [] → payloads (pageWalk g im (turn g old i) .heads) ≡ []) → (later : List Head)
+        → ((cur : List ℕ) → Ahead (suc i) cur → Comes later cur (nextItem g b old clears m (fromAddress (dataStart g (next g (turn g old i)))) cur))
+        → Comes (walkOn g im a .heads ++ cond (stops im (next g (turn g old i))) [] later) cur (nextItem g b old clears (suc (suc m)) (fromAddress a) cur)
+    unfolding nextItem readPage
+    come-page m k i e cur A a I here finished later f =
+        let p : ℕ = turn g old i in
+        let h : i < g .pages = omega arith in
+        let further : List ℕ → Plan (Try Stand Outcome) = nextItem g b old clears m (fromAddress (dataStart g (next g p))) in
+        rw (walk-on-same S cur im a I (rw here (A .fresh i (omega arith) h)), here)
+        (come-heads (walkOn g im a .heads) cur (leavePage g old clears p further) _
+        (λ none. come-leave clears p (turn-lt g old i ho (omega arith)) cur further later (A .known) (next-page i k cur e A) (λ t. finished t none)
+        (f (imageAfter g (left clears p) cur) (left-ahead clears i h cur A))))
+
+    pub ways : (k i : ℕ) → i + k ≡ g .pages → (cur : List ℕ) → Ahead i cur
+        → Comes (onTheWay g im old (around g k (turn g old i))) cur (nextItem g b old clears (2 * k) (fromAddress (dataStart g (turn g old i))) cur)
+    unfolding onTheWay around nextItem meet
+    ways zero i e cur A = record { clears = tt; came = ends refl }
+    ways (suc k) i e cur A =
+        let p : ℕ = turn g old i in
+        let z : 2 * suc k ≡ suc (suc (2 * k)) = omega arith in
+        let w = walk-on-start g (inner S) im p in
+        rw (z, ← w)
+        (come-page (2 * k) k i e cur A (dataStart g p) (start-in S p (turn-lt g old i ho (omega arith))) (page-of-start g (inner S) p) (λ t none. rw (← w) none) _
+        (λ cur A. rw (next-turn g old i ho (omega arith)) (ways k (suc i) (omega arith) cur A)))

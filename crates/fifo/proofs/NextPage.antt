@@ -74,11 +74,11 @@ module _ {g : Geometry} {jm : List ℕ} {o b : ℕ} (I : Inv g jm o b) {old : �
   next-sound = not-same (state g jm (turn g o 1)) Corrupted (sound g jm o b S (turn g o 1) (turn-in I 1 (omega (arith, S .run-in))))
 
   pub leave-stop : (further : List ℕ → Plan (Try Stand Outcome)) → endsAt g jm (turn g o 1) old ≡ true
-      → leavePage g old o further jm ≡ plan [] (gives nothing)
+      → leavePage g old true o further jm ≡ plan [] (gives nothing)
   unfolding leavePage
   leave-stop further s = rw (nx, next-sound, s)
 
   pub leave-on : (further : List ℕ → Plan (Try Stand Outcome)) → endsAt g jm (turn g o 1) old ≡ false
-      → leavePage g old o further jm ≡ plan (erase o ∷ further (imageBy g (erase o) jm) .events) (further (imageBy g (erase o) jm) .answer)
+      → leavePage g old true o further jm ≡ plan (erase o ∷ further (imageBy g (erase o) jm) .events) (further (imageBy g (erase o) jm) .answer)
   unfolding leavePage bind erasePage imageAfter
   leave-on further s = rw (nx, next-sound, s)

@@ -7,14 +7,15 @@ use native.Mathlib.Omega.{arith}
 use lib.ListN.{length, take, drop, length-take}
 use Rattle.paper.specs.declared.Geometry.{Geometry}
 use Rattle.paper.specs.declared.PageState.the-variants.{Open}
-use Rattle.paper.specs.Chip.{roundUp, headerSize, part, Event, erase, imageBy, imageAfter, bufferAfter, Plan, plan, Try, gives, settled}
+use Rattle.paper.specs.Chip.{roundUp, headerSize, dataStart, part, Event, erase, imageBy, imageAfter, bufferAfter, Plan, plan, bind, Try, gives, settled}
 use Rattle.paper.specs.Scan.{Head, Walk, pageWalk, payloads, present}
 use Rattle.paper.specs.Pages.{next, state}
-use Rattle.paper.specs.Calls.{passed, long, met, readHeads, Stand, onPage, afterPage, Outcome, nothing, short, this, spoilt, onMet, readPage, leavePage, nextItem, nextStep, startStep, searchOn, search}
+use Rattle.paper.specs.Calls.{passed, long, met, readHeads, Stand, fromAddress, afterPage, Outcome, nothing, short, this, spoilt, onMet, leavePage, nextItem, nextStep, startStep, searchOn, search}
 use Rattle.paper.specs.Waiting.{waiting}
 use Rattle.laws.proofs.Events.{buffer-append}
 use Rattle.laws.proofs.Ring.{turn, turn-zero, turn-suc, turn-apart, next-is}
 use Rattle.laws.proofs.Rounding.{round-up-ge}
+use Rattle.laws.proofs.Standing.{read-start}
 use Rattle.fifo.proofs.Events.{Avoids, avoid-append}
 use Rattle.fifo.proofs.Plans.{bind-known, bind-last, bind-first, no-repair}
 use Rattle.fifo.proofs.RingShape.{RingShape, oldest-is}
@@ -40,6 +41,10 @@ pub data Result (g : Geometry) (q : List (List ℕ)) (jm : List ℕ) (n : ℕ) (
   isShort : (k : ℕ) → out ≡ short k → (p : ℕ) → p < g .pages → Overlong g n (pageWalk g (imageAfter g es jm) p .heads) k → Result g q jm n es out
   isThis : (h : Head) → out ≡ this h → Found g jm es h → Result g q jm n es out
 
+-- the search from page p's first item on
+abbrev fromPage : Geometry → ℕ → ℕ → ℕ → ℕ → List ℕ → Plan (Try Stand Outcome)
+fromPage g n old k p = nextItem g n old true k (fromAddress (dataStart g p))
+
 record Finds (g : Geometry) (q : List (List ℕ)) (jm : List ℕ) (n : ℕ) (p : Plan (Try Stand Outcome)) : Type 0 where
   events : List Event
   out : Outcome
@@ -55,7 +60,11 @@ module _ {g : Geometry} {jm : List ℕ} {o b : ℕ} (I : Inv g jm o b) {old : �
 
   module _ (n : ℕ) (q : List (List ℕ)) (l : waiting g jm ≡ q) (es : List Event) (c : Copies es) where
     abbrev onward : ℕ → List ℕ → Plan (Try Stand Outcome)
-    onward k = nextItem g n old k (onPage (next g o))
+    onward k = fromPage g n old k (next g o)
+
+    read-here : (k : ℕ)
+        → fromPage g n old (suc k) o jm ≡ bind g jm (readHeads g n (pageWalk g jm o .heads) jm) (onMet (nextItem g n old true k (afterPage o)))
+    read-here k = read-start g (omega (arith, I .good)) n old true k o jm
 
     K : Keeps g q jm
     K = record { old = o; runs = b; inv = I; list = l }
@@ -65,15 +74,15 @@ module _ {g : Geometry} {jm : List ℕ} {o b : ℕ} (I : Inv g jm o b) {old : �
 
     -- all its heads were passed
     module _ (k : ℕ) (e : readHeads g n (pageWalk g jm o .heads) jm ≡ plan es passed) (none-here : presentIn g jm o ≡ []) where
-      passed-on : {fs : List Event} {a : Try Stand Outcome} → leavePage g old o (onward k) jm ≡ plan fs a
-          → nextItem g n old (suc (suc k)) (onPage o) jm ≡ plan (es ++ fs) a
-      unfolding nextItem readPage onMet
-      passed-on f = bind-known g jm (onMet (nextItem g n old (suc k) (afterPage o))) e
-          ∙ ap (λ (x : List ℕ). plan (es ++ leavePage g old o (onward k) x .events) (leavePage g old o (onward k) x .answer)) same-image
+      passed-on : {fs : List Event} {a : Try Stand Outcome} → leavePage g old true o (onward k) jm ≡ plan fs a
+          → fromPage g n old (suc (suc k)) o jm ≡ plan (es ++ fs) a
+      unfolding nextItem onMet
+      passed-on f = read-here (suc k) ∙ bind-known g jm (onMet (nextItem g n old true (suc k) (afterPage o))) e
+          ∙ ap (λ (x : List ℕ). plan (es ++ leavePage g old true o (onward k) x .events) (leavePage g old true o (onward k) x .answer)) same-image
           ∙ ap (λ (p : Plan (Try Stand Outcome)). plan (es ++ p .events) (p .answer)) f
 
       -- the next page ends the search
-      stop-here : endsAt g jm (turn g o 1) old ≡ true → run g jm o 1 b ≡ [] → Finds g q jm n (nextItem g n old (suc (suc k)) (onPage o) jm)
+      stop-here : endsAt g jm (turn g o 1) old ≡ true → run g jm o 1 b ≡ [] → Finds g q jm n (fromPage g n old (suc (suc k)) o jm)
       unfolding run
       stop-here s r = record {
         events = es ++ [];
@@ -86,12 +95,12 @@ module _ {g : Geometry} {jm : List ℕ} {o b : ℕ} (I : Inv g jm o b) {old : �
 
       -- page o is erased, and the search goes on
       go-on : endsAt g jm (turn g o 1) old ≡ false
-          → Finds g q (imageBy g (erase o) jm) n (nextItem g n old k (onPage (turn g o 1)) (imageBy g (erase o) jm))
-          → Finds g q jm n (nextItem g n old (suc (suc k)) (onPage o) jm)
+          → Finds g q (imageBy g (erase o) jm) n (fromPage g n old k (turn g o 1) (imageBy g (erase o) jm))
+          → Finds g q jm n (fromPage g n old (suc (suc k)) o jm)
       go-on s R = record {
         events = es ++ (erase o ∷ R .events);
         out = R .out;
-        is = passed-on (leave-on I F (onward k) s ∙ ap (λ (x : ℕ). then (nextItem g n old k (onPage x) km)) (next-is g o (S .old-in)) ∙ ap then (R .is));
+        is = passed-on (leave-on I F (onward k) s ∙ ap (λ (x : ℕ). then (fromPage g n old k x km)) (next-is g o (S .old-in)) ∙ ap then (R .is));
         steady = steady-append (copies-steady K c) (rw same-image (goes K (erased o (S .old-in)) (R .steady)));
         result = by (R .result);
       }
@@ -125,12 +134,12 @@ module _ {g : Geometry} {jm : List ℕ} {o b : ℕ} (I : Inv g jm o b) {old : �
 
     -- a live header is too long for the buffer
     read-short : (k m : ℕ) → readHeads g n (pageWalk g jm o .heads) jm ≡ plan es (long m) → Overlong g n (pageWalk g jm o .heads) m
-        → Finds g q jm n (nextItem g n old (suc k) (onPage o) jm)
-    unfolding nextItem readPage onMet
+        → Finds g q jm n (fromPage g n old (suc k) o jm)
+    unfolding onMet
     read-short k m e h = record {
       events = es;
       out = short m;
-      is = bind-last g jm (onMet (nextItem g n old k (afterPage o))) e refl;
+      is = read-here k ∙ bind-last g jm (onMet (nextItem g n old true k (afterPage o))) e refl;
       steady = copies-steady K c;
       result = isShort m refl o (S .old-in) (rw same-image h);
     }
@@ -138,12 +147,12 @@ module _ {g : Geometry} {jm : List ℕ} {o b : ℕ} (I : Inv g jm o b) {old : �
     -- the first present item is in page o
     found-here : (k : ℕ) (h : Head) → readHeads g n (pageWalk g jm o .heads) jm ≡ plan (es ++ reads g h) (met h)
         → (pre post : List Head) → pageWalk g jm o .heads ≡ pre ++ (h ∷ post) → payloads pre ≡ [] → present h ≡ true
-        → Finds g q jm n (nextItem g n old (suc k) (onPage o) jm)
-    unfolding nextItem readPage onMet
+        → Finds g q jm n (fromPage g n old (suc k) o jm)
+    unfolding onMet
     found-here k h e pre post hs ip ph = record {
       events = es ++ reads g h;
       out = this h;
-      is = bind-last g jm (onMet (nextItem g n old k (afterPage o))) e refl;
+      is = read-here k ∙ bind-last g jm (onMet (nextItem g n old true k (afterPage o))) e refl;
       steady = copies-steady K d;
       result = isThis h refl (record { first = rw ia first; shown = shown; unerased = copies-avoid o d; as-it-was = rw ia });
     }
@@ -178,7 +187,7 @@ module _ {g : Geometry} {jm : List ℕ} {o b : ℕ} (I : Inv g jm o b) {old : �
 -- two turns for each page are enough
 finds : {g : Geometry} (n old : ℕ) {q : List (List ℕ)} (k : ℕ) {jm : List ℕ} {o b : ℕ} → Inv g jm o b → waiting g jm ≡ q → 2 * b + 1 < k
     → Behind g old o b
-    → Finds g q jm n (nextItem g n old k (onPage o) jm)
+    → Finds g q jm n (fromPage g n old k o jm)
 finds n old zero I l h F = let z : ⊥ = omega arith in absurd z
 finds n old (suc zero) I l h F = let z : ⊥ = omega arith in absurd z
 finds {g} n old {q} (suc (suc k)) {jm} {o} {b} I l h F = by (heads-read g n (pageWalk g jm o .heads) jm) (ahead I F)
@@ -189,8 +198,8 @@ finds {g} n old {q} (suc (suc k)) {jm} {o} {b} I l h F = by (heads-read g n (pag
   where
     by : HeadsRead g n (pageWalk g jm o .heads) (readHeads g n (pageWalk g jm o .heads) jm) → Ahead g jm o b old
         → (0 < b → (state g jm (turn g o 1) ≡ Open → ⊥) → presentIn g jm o ≡ []
-        → Finds g q (imageBy g (erase o) jm) n (nextItem g n old k (onPage (turn g o 1)) (imageBy g (erase o) jm)))
-        → Finds g q jm n (nextItem g n old (suc (suc k)) (onPage o) jm)
+        → Finds g q (imageBy g (erase o) jm) n (fromPage g n old k (turn g o 1) (imageBy g (erase o) jm)))
+        → Finds g q jm n (fromPage g n old (suc (suc k)) o jm)
     by (tooSmall m es e c s) A rec = read-short I F n q l es c (suc k) m e s
     by (gotIt h₁ es e c pre post hs ip ph) A rec = found-here I F n q l es c (suc k) h₁ e pre post hs ip ph
     by (allPassed es e c p) (stops s r) rec = stop-here I F n q l es c k e p s r
@@ -214,7 +223,7 @@ searched {g} {im} {o} {b} I n =
       events = R .events;
       out = R .out;
       is = bind-first g im (searchOn g n) (no-repair g im (startStep g) tt (ap (λ (t : Try Unit ℕ). plan [] t) (oldest-is g im o b S)))
-          ∙ bind-last g im (λ t im₁. plan [] (settled spoilt t)) (no-repair g im (nextStep g n o) (onPage o) (R .is)) refl;
+          ∙ bind-last g im (λ t im₁. plan [] (settled spoilt t)) (no-repair g im (nextStep g n o true) (fromAddress (dataStart g o)) (R .is)) refl;
       steady = R .steady;
       result = R .result;
     }

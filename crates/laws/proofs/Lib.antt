@@ -8,4 +8,5 @@ pub mod Rounding
 pub mod Places
 pub mod PageBytes
 pub mod Ring
+pub mod Standing
 pub mod Accepted

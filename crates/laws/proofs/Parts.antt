@@ -1,6 +1,6 @@
 -- Parts of a list: of its front, of another part, of one byte repeated. Assumes nothing.
 use mathlib.Core.List.{List, [], _∷_, _++_}
-use mathlib.Core.Path.{_≡_, refl, ap, _∙_}
+use mathlib.Core.Path.{_≡_, refl, sym, ap, _∙_}
 use Prim.Native.Nat.{ℕ, zero, suc, _+_, _-_, _≤_}
 use native.Mathlib.Nat.{suc-sub-suc}
 use native.Mathlib.Omega.{arith}
@@ -20,6 +20,15 @@ part-take (suc a) n (suc m) (b ∷ l) h = part-take a n m l (omega arith)
 
 pub part-part : (b m i n : ℕ) (l : List ℕ) → i + n ≤ m → part i n (part b m l) ≡ part (b + i) n l
 part-part b m i n l h = part-take i n m (drop b l) h ∙ ap (λ (x : List ℕ). take n x) (drop-drop i b l)
+
+-- lists with the same part have the same parts inside it
+pub parts-same : (b m : ℕ) (l k : List ℕ) → part b m l ≡ part b m k → (a n : ℕ) → b ≤ a → a + n ≤ b + m → part a n l ≡ part a n k
+parts-same b m l k e a n low high = sym (inner l) ∙ ap (part (a - b) n) e ∙ inner k
+  where
+    inner : (x : List ℕ) → part (a - b) n (part b m x) ≡ part a n x
+    inner x =
+        let z : b + (a - b) ≡ a = omega arith in
+        part-part b m (a - b) n x (omega arith) ∙ ap (λ (i : ℕ). part i n x) z
 
 -- ---- two lists in a row
 

@@ -1,5 +1,5 @@
 -- The calls, each as a plan: its events in order and its answer. Assumes nothing.
-use mathlib.Core.Bool.{Bool, cond, _||_, _&&_, not}
+use mathlib.Core.Bool.{Bool, true, cond, _||_, _&&_, not}
 use mathlib.Core.List.{List, [], _∷_, _++_}
 use Prim.Native.Nat.{ℕ, zero, suc, _+_, _-_, _*_}
 use lib.Dec.{eqb, ltb}
@@ -7,9 +7,9 @@ use lib.ListN.{length}
 use Rattle.paper.specs.declared.Shape.{Shape}
 use Rattle.paper.specs.declared.Refusal.the-variants as refusal
 use Rattle.paper.specs.Checksum.{dataCrc}
-use Rattle.paper.specs.Chip.{Geometry, roundUp, roundDown, headerSize, dataStart, dataSize, Event, copy, storeCount, before, writes, erasePage, Plan, plan, bind, andThen, Try, fails, gives, onGiven, settled}
+use Rattle.paper.specs.Chip.{Geometry, roundUp, roundDown, headerSize, dataStart, dataSize, pageOf, Event, copy, storeCount, before, writes, erasePage, Plan, plan, bind, andThen, Try, fails, gives, onGiven, settled}
 use Rattle.paper.specs.Slip.{encode}
-use Rattle.paper.specs.Scan.{Head, pageWalk, freeSpot, serves, live, present, anyLive}
+use Rattle.paper.specs.Scan.{Head, pageWalk, walkOn, freeSpot, serves, live, present, anyLive}
 use Rattle.paper.specs.Pages.{PageState, Open, PartialOpen, Closed, Corrupted, state, same, setStart, setEnd, next, allPages, youngest, oldest, repair}
 use Rattle.paper.specs.Refusals.{Checked, Accepted, Refused, check, lengthLimit, Answer, done, shown, number, none, empty, refused}
 
@@ -102,9 +102,9 @@ readHeads g n (h ∷ hs) im =
     (cond (ltb n size) (plan [] (long size))
     (cond (present h) (plan read (met h)) later))
 
--- where a search stands: at a page's first item, or leaving a page
+-- where a search stands: at an address, from which it reads on; or leaving a page
 pub data Stand : Type 0 where
-  onPage : ℕ → Stand
+  fromAddress : ℕ → Stand
   afterPage : ℕ → Stand
 
 -- what a search comes to: no present item, a live header too long for the buffer, a present item, or Corrupted
@@ -119,26 +119,26 @@ onMet further passed im = further im
 onMet further (long n) im = plan [] (gives (short n))
 onMet further (met h) im = plan [] (gives (this h))
 
--- "skip popped and torn items"
+-- "skip popped and torn items", from address a on
 unfoldable pub readPage : Geometry → ℕ → ℕ → (List ℕ → Plan (Try Stand Outcome)) → List ℕ → Plan (Try Stand Outcome)
-readPage g n p further im = bind g im (readHeads g n (pageWalk g im p .heads) im) (onMet further)
+readPage g n a further im = bind g im (readHeads g n (walkOn g im a .heads) im) (onMet further)
 
--- "Leaving a page, stop if the next page is Open or is the oldest; otherwise erase the page just left."
-unfoldable pub leavePage : Geometry → ℕ → ℕ → (List ℕ → Plan (Try Stand Outcome)) → List ℕ → Plan (Try Stand Outcome)
-leavePage g old p further im =
+-- "Leaving a page, stop if the next page is Open or is the oldest; otherwise erase the page just left", if clears says so
+unfoldable pub leavePage : Geometry → ℕ → Bool → ℕ → (List ℕ → Plan (Try Stand Outcome)) → List ℕ → Plan (Try Stand Outcome)
+leavePage g old clears p further im =
     let s = state g im (next g p) in
-    let onward = andThen g im (erasePage g p) further in
+    let onward = andThen g im (cond clears (erasePage g p) []) further in
     cond (same s Corrupted) (plan [] (fails (afterPage p)))
     (cond (same s Open || eqb (next g p) old) (plan [] (gives nothing)) onward)
 
 -- the next present item from a stand; two turns for each page are enough, since the search ends before it is back at the oldest page
-unfoldable pub nextItem : Geometry → ℕ → ℕ → ℕ → Stand → List ℕ → Plan (Try Stand Outcome)
-nextItem g n old zero stand im = plan [] (gives nothing)
-nextItem g n old (suc k) (onPage p) im = readPage g n p (nextItem g n old k (afterPage p)) im
-nextItem g n old (suc k) (afterPage p) im = leavePage g old p (nextItem g n old k (onPage (next g p))) im
+unfoldable pub nextItem : Geometry → ℕ → ℕ → Bool → ℕ → Stand → List ℕ → Plan (Try Stand Outcome)
+nextItem g n old clears zero stand im = plan [] (gives nothing)
+nextItem g n old clears (suc k) (fromAddress a) im = readPage g n a (nextItem g n old clears k (afterPage (pageOf g a))) im
+nextItem g n old clears (suc k) (afterPage p) im = leavePage g old clears p (nextItem g n old clears k (fromAddress (dataStart g (next g p)))) im
 
-unfoldable pub nextStep : Geometry → ℕ → ℕ → Stand → List ℕ → Plan (Try Stand Outcome)
-nextStep g n old stand im = nextItem g n old (2 * g .pages) stand im
+unfoldable pub nextStep : Geometry → ℕ → ℕ → Bool → Stand → List ℕ → Plan (Try Stand Outcome)
+nextStep g n old clears stand im = nextItem g n old clears (2 * g .pages) stand im
 
 -- "Peek and pop have two: finding the start, and finding the next item from where it stood."
 unfoldable pub startStep : Geometry → Unit {0} → List ℕ → Plan (Try Unit ℕ)
@@ -146,7 +146,8 @@ startStep g u im = plan [] (oldest g im)
 
 unfoldable pub searchOn : Geometry → ℕ → Try Unit ℕ → List ℕ → Plan Outcome
 searchOn g n (fails u) im = plan [] spoilt
-searchOn g n (gives old) im = bind g im (withRepair g (nextStep g n old) (onPage old) im) (λ t im₁. plan [] (settled spoilt t))
+searchOn g n (gives old) im =
+    bind g im (withRepair g (nextStep g n old true) (fromAddress (dataStart g old)) im) (λ t im₁. plan [] (settled spoilt t))
 
 -- n is the buffer's size
 unfoldable pub search : Geometry → List ℕ → ℕ → Plan Outcome

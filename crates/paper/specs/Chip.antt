@@ -36,6 +36,10 @@ dataSize g = g .page - 2 * g .word
 unfoldable pub dataEnd : Geometry → ℕ → ℕ
 dataEnd g p = dataStart g p + dataSize g
 
+-- the page that an address lies in
+unfoldable pub pageOf : Geometry → ℕ → ℕ
+pageOf g a = (a - g .start) / g .page
+
 -- n bytes of a list, from place a on
 abbrev pub part : ℕ → ℕ → List ℕ → List ℕ
 part a n bytes = take n (drop a bytes)

@@ -5,7 +5,7 @@ use Prim.Native.Nat.{ℕ, zero, suc, _+_, _-_}
 use lib.Dec.{eqb, leb}
 use lib.ListN.{length}
 use Rattle.paper.specs.Checksum.{dataCrc}
-use Rattle.paper.specs.Chip.{Geometry, roundUp, roundDown, headerSize, dataStart, dataEnd, pageData}
+use Rattle.paper.specs.Chip.{Geometry, roundUp, roundDown, headerSize, dataStart, dataEnd, pageOf, part, pageData}
 use Rattle.paper.specs.Slip.{Look, stop, bad, item, look}
 
 -- an accepted header: its address, stored CRC and length; and the payload's part of the image
@@ -39,6 +39,10 @@ walk g zero a (b ∷ bs) = onward g a (b ∷ bs) (look g (b ∷ bs)) (λ n. walk
 
 unfoldable pub pageWalk : Geometry → List ℕ → ℕ → Walk
 pageWalk g im p = walk g 0 (dataStart g p) (pageData g im p)
+
+-- from address a on, in the page that it lies in
+unfoldable pub walkOn : Geometry → List ℕ → ℕ → Walk
+walkOn g im a = walk g 0 a (part a (dataEnd g (pageOf g a) - a) im)
 
 -- "So the walk ends with the address of the free spot."
 unfoldable pub freeSpot : Geometry → List ℕ → ℕ → ℕ

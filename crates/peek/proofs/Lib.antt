@@ -1,4 +1,5 @@
 pub mod ReadingItems
+pub mod Standing
 pub mod Turning
 pub mod Leaving
 pub mod Beginning

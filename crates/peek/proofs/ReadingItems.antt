@@ -8,11 +8,10 @@ use borrow.Author.Tests.{lt-leb, ltb-true}
 use lib.Dec.{leb, ltb}
 use lib.ListN.{length}
 use Rattle.paper.specs.declared.Geometry.{Geometry}
-use Rattle.paper.specs.Chip.{copy, roundUp, headerSize, dataStart, dataEnd, storeCount, Plan}
-use Rattle.paper.specs.Scan.{Head, live, present}
+use Rattle.paper.specs.Chip.{copy, roundUp, headerSize, dataEnd, pageOf, storeCount, Plan}
+use Rattle.paper.specs.Scan.{Head, walkOn, live, present}
 use Rattle.paper.specs.Calls.{Met, passed, long, met, readHeads}
 use Rattle.chip.specs.declared.Budget.{Budget}
-use Rattle.chip.specs.Within.{Within}
 use Rattle.chip.specs.Run.{Acted}
 use Rattle.chip.proofs.Running.{acted-copies}
 use Rattle.chip.proofs.Binding.{showed-none, showed-plan, showed-and-then, showed-turned}
@@ -22,7 +21,6 @@ use Rattle.item.specs.declared.MaybeItem.the-variants as maybe
 use Rattle.item.specs.Places.{after, Inside}
 use Rattle.item.specs.Reading.{itemOf, copies, readAs, ReadIs}
 use Rattle.item.specs.Scanning.{walkFrom, lives, Reaches}
-use Rattle.item.proofs.PageScan.{page-walk}
 use Rattle.item.proofs.ReadingHeads.{readOn, read-on, read-lives}
 use Rattle.peek.specs.Turns.{afterItems, readTurn}
 use Rattle.peek.specs.Meanings.{headOf, ItemIn}
@@ -110,9 +108,9 @@ module _ (g : Geometry) (im : List ℕ) (end n : ℕ) where
         let w = by-lives (behind g x) _ refl in
         rw (first-read _ q) (showed-and-then (readHeads g n (lives (walkFrom g im end (behind g x) .heads))) (copied b) refl (rw (← w) (v b)))
 
--- ---- those of a page
+-- ---- those of what is left of a page
 
-pub page-read : {g : Geometry} (im : List ℕ) {p a end : ℕ} (n : ℕ) {d e : List ℕ} {x : Met} (y : Met) → Within g (length im) → p < g .pages → a ≡ dataStart g p → end ≡ dataEnd g p
-    → Copied g (reading g im end n a) im d e x → x ≡ y → Copied g (readTurn g n p im) im d e (afterItems p y)
-unfolding readTurn
-page-read {g} im {p} n y w h ea ee v q b = rw (← page-walk im w h ea ee, ← q) (showed-turned (afterItems p) (v b))
+pub page-read : (g : Geometry) (im : List ℕ) (a n : ℕ) {p end : ℕ} {d e : List ℕ} {x : Met} (y : Met) → p ≡ pageOf g a → end ≡ dataEnd g p → Copied g (reading g im end n a) im d e x → x ≡ y
+    → Copied g (readTurn g n a im) im d e (afterItems p y)
+unfolding readTurn walkOn
+page-read g im a n {p} y ep ee v q b = rw (← ep, ← ee, ← q) (showed-turned (afterItems p) (v b))

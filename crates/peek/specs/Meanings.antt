@@ -1,21 +1,21 @@
 -- What the cases of the code's answers stand for in the paper, and that what they name lies in the range. Assumes nothing.
 use mathlib.Core.Path.{_≡_}
 use mathlib.Core.List.{List}
-use Prim.Native.Nat.{ℕ, _<_}
+use Prim.Native.Nat.{ℕ, _≤_, _<_}
 use Rattle.paper.specs.declared.Geometry.{Geometry}
 use Rattle.paper.specs.declared.Shown.{Shown}
-use Rattle.paper.specs.Chip.{Try, fails, gives, settled}
+use Rattle.paper.specs.Chip.{pageStart, dataEnd, pageOf, Try, fails, gives, settled}
 use Rattle.paper.specs.Scan.{Head}
 use Rattle.paper.specs.Refusals.{shownAs}
-use Rattle.paper.specs.Calls.{passed, long, onPage, afterPage, Outcome, nothing, short, this, spoilt, shownBy}
+use Rattle.paper.specs.Calls.{passed, long, fromAddress, afterPage, Outcome, nothing, short, this, spoilt, shownBy}
 use Rattle.paper.specs.Calls as calls
 use Rattle.item.specs.declared.Item.{Item}
 use Rattle.item.specs.Places.{Room}
 use Rattle.item.specs.Reading.{headAt}
 use Rattle.page.specs.declared.Chosen.{Chosen}
 use Rattle.page.specs.Searches.{chosenAs}
-use Rattle.peek.specs.declared.Stand.{Stand}
-use Rattle.peek.specs.declared.Stand.the-variants as stand
+use Rattle.peek.specs.declared.NextAddress.{NextAddress}
+use Rattle.peek.specs.declared.NextAddress.the-variants as stand
 use Rattle.peek.specs.declared.Met.{Met}
 use Rattle.peek.specs.declared.Met.the-variants as met
 use Rattle.peek.specs.declared.Found.{Found}
@@ -36,9 +36,9 @@ ItemIn g n x = Room g n (x .address .0) (x .header .length)
 
 -- ---- what answers stand for
 
-abbrev pub standAs : Stand → calls.Stand
-standAs (stand.OnPage p) = onPage (p .0)
-standAs (stand.AfterPage p) = afterPage (p .0)
+abbrev pub standAs : NextAddress → calls.Stand
+standAs (stand.Address a) = fromAddress (a .0)
+standAs (stand.PageAfter p) = afterPage (p .0)
 
 abbrev pub metAs : Geometry → List ℕ → Met → calls.Met
 metAs g im met.Passed = passed
@@ -63,9 +63,15 @@ turnAs g im (turn.Ends f) = ends (triedAs g im f)
 
 -- ---- that what they name lies in the range, and in an image of n bytes
 
-abbrev pub StandIn : Geometry → Stand → Type 0
-StandIn g (stand.OnPage p) = p .0 < g .pages
-StandIn g (stand.AfterPage p) = p .0 < g .pages
+-- address a lies in the range, and not behind the data of its page
+pub record ReadableFrom (g : Geometry) (a : ℕ) : Type 0 where
+  pub low : g .start ≤ a
+  pub high : a < pageStart g (g .pages)
+  pub ends : a ≤ dataEnd g (pageOf g a)
+
+abbrev pub StandIn : Geometry → NextAddress → Type 0
+StandIn g (stand.Address a) = ReadableFrom g (a .0)
+StandIn g (stand.PageAfter p) = p .0 < g .pages
 
 abbrev pub ChosenIn : Geometry → Chosen → Type 0
 ChosenIn g r = (p : ℕ) → chosenAs r ≡ gives p → p < g .pages

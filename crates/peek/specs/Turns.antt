@@ -1,41 +1,41 @@
 -- The search by turns: what one turn does, as a plan that goes on from another stand or ends the search. Assumes nothing.
-use mathlib.Core.Bool.{cond, _||_}
+use mathlib.Core.Bool.{Bool, cond, _||_}
 use mathlib.Core.List.{List, []}
 use Prim.Native.Nat.{ℕ}
 use lib.Dec.{eqb}
 use Rattle.paper.specs.declared.Geometry.{Geometry}
 use Rattle.paper.specs.declared.PageState.the-variants.{Open, Corrupted}
-use Rattle.paper.specs.Chip.{erasePage, Plan, plan, bind, Try, fails, gives}
-use Rattle.paper.specs.Scan.{pageWalk}
+use Rattle.paper.specs.Chip.{dataStart, pageOf, erasePage, Plan, plan, bind, Try, fails, gives}
+use Rattle.paper.specs.Scan.{walkOn}
 use Rattle.paper.specs.Pages.{state, same, next}
-use Rattle.paper.specs.Calls.{Met, passed, long, met, readHeads, Stand, onPage, afterPage, Outcome, nothing, short, this}
+use Rattle.paper.specs.Calls.{Met, passed, long, met, readHeads, Stand, fromAddress, afterPage, Outcome, nothing, short, this}
 
 -- what a turn comes to
 pub data Going : Type 0 where
   goes : Stand → Going
   ends : Try Stand Outcome → Going
 
--- after the items of page p were read
+-- after items of page p were read
 abbrev pub afterItems : ℕ → Met → Going
 afterItems p passed = goes (afterPage p)
 afterItems p (long n) = ends (gives (short n))
 afterItems p (met h) = ends (gives (this h))
 
--- a turn on page p
+-- a turn that reads on from address a
 unfoldable pub readTurn : Geometry → ℕ → ℕ → List ℕ → Plan Going
-readTurn g n p im = bind g im (readHeads g n (pageWalk g im p .heads) im) (λ m im₁. plan [] (afterItems p m))
+readTurn g n a im = bind g im (readHeads g n (walkOn g im a .heads) im) (λ m im₁. plan [] (afterItems (pageOf g a) m))
 
 -- a turn that leaves page p
-unfoldable pub leaveTurn : Geometry → ℕ → ℕ → List ℕ → Plan Going
-leaveTurn g old p im =
+unfoldable pub leaveTurn : Geometry → ℕ → Bool → ℕ → List ℕ → Plan Going
+leaveTurn g old clears p im =
     let s = state g im (next g p) in
     cond (same s Corrupted) (plan [] (ends (fails (afterPage p))))
     (cond (same s Open || eqb (next g p) old) (plan [] (ends (gives nothing)))
-    (plan (erasePage g p) (goes (onPage (next g p)))))
+    (plan (cond clears (erasePage g p) []) (goes (fromAddress (dataStart g (next g p))))))
 
-abbrev pub turnFrom : Geometry → ℕ → ℕ → Stand → List ℕ → Plan Going
-turnFrom g n old (onPage p) im = readTurn g n p im
-turnFrom g n old (afterPage p) im = leaveTurn g old p im
+abbrev pub turnFrom : Geometry → ℕ → ℕ → Bool → Stand → List ℕ → Plan Going
+turnFrom g n old clears (fromAddress a) im = readTurn g n a im
+turnFrom g n old clears (afterPage p) im = leaveTurn g old clears p im
 
 -- what follows on a turn
 abbrev pub onGoing : (Stand → List ℕ → Plan (Try Stand Outcome)) → Going → List ℕ → Plan (Try Stand Outcome)

@@ -13,7 +13,7 @@ ghost use Rattle.item.specs.Places.{Inside};
 ghost use Rattle.item.specs.Scanning.{walkFrom};
 ghost use Rattle.page.specs.Searches.{chosenAs};
 ghost use Rattle.peek.specs.Turns.{readTurn, leaveTurn, turnFrom};
-ghost use Rattle.peek.specs.Meanings.{standAs, metAs, foundAs, triedAs, turnAs, StandIn, ChosenIn, MetIn, FoundIn, TurnIn, Shows};
+ghost use Rattle.peek.specs.Meanings.{standAs, metAs, foundAs, triedAs, turnAs, ReadableFrom, StandIn, ChosenIn, MetIn, FoundIn, TurnIn, Shows};
 ghost use Rattle.peek.specs.Searching.{Copies, Stores, ComesTo};
 use chip::Address;
 use chip::Budget;
@@ -28,10 +28,10 @@ use paper::PageState;
 use paper::Refusal;
 use paper::Shown;
 
-// Where a search stands: at a page's first item, or leaving a page. This is the Rust's NextAddress.
-enum Stand {
-    OnPage(Page),
-    AfterPage(Page),
+// Where a search stands: at an address, from which it reads on in that address's page, or behind a page, which it leaves.
+enum NextAddress {
+    Address(Address),
+    PageAfter(Page),
 }
 
 // What reading the items of a page comes to: none is present, one is too long for the buffer, or this one is present.
@@ -48,12 +48,12 @@ enum Found {
     TooSmall(usize),
     Present(Item),
     Corrupted,
-    Failed(Stand),
+    Failed(NextAddress),
 }
 
 // What one turn of the search comes to: it goes on from another stand, or ends.
 enum Turn {
-    Goes(Stand),
+    Goes(NextAddress),
     Ends(Found),
 }
 
@@ -141,6 +141,7 @@ fn pop_found(image: &mut [u8], b: Budget, g: Geometry, found: Found) -> Spent
 
 // ---- the search, which has two steps, each with its repair
 
+// It begins with the oldest page's first item and ends at a present one: the pages that it leaves have none, so it clears them.
 fn search(image: &mut [u8], buffer: &mut [u8], b: Budget, g: Geometry) -> Searched
     requires { ⌜ Within g (length (now image)) ⌝ }
     ensures { λ r. ⌜ ComesTo (foundAs g) (FoundIn g) g b (calls.search g (now (image .entry)) (length (now (buffer .entry)))) (now (image .entry)) (now (image .exit)) (now (buffer .entry)) (now (buffer .exit)) (r .spent) (r .found) ⌝ }
@@ -159,14 +160,18 @@ fn search(image: &mut [u8], buffer: &mut [u8], b: Budget, g: Geometry) -> Search
             spent,
             found: Found::Corrupted,
         },
-        Chosen::At(oldest) => next(
-            image,
-            buffer,
-            spent.budget,
-            g,
-            oldest,
-            Stand::OnPage(oldest),
-        ),
+        Chosen::At(oldest) => {
+            let address = chip::page_data_start_address(g, oldest);
+            next(
+                image,
+                buffer,
+                spent.budget,
+                g,
+                oldest,
+                true,
+                NextAddress::Address(address),
+            )
+        }
     }
 }
 
@@ -211,19 +216,21 @@ fn find_start(image: &mut [u8], b: Budget, g: Geometry) -> Starting
 
 // ---- finding the next item
 
-// QueueIterator::next: what failed is run once more from where it stood, on a repaired image.
+// QueueIterator::next: what failed is run once more from where it stood, on a repaired image. `clears` says whether the pages that it leaves
+// are erased: in the Rust, whether its previous_item_states are AllPopped.
 fn next(
     image: &mut [u8],
     buffer: &mut [u8],
     b: Budget,
     g: Geometry,
     oldest: Page,
-    stand: Stand,
+    clears: bool,
+    stand: NextAddress,
 ) -> Searched
     requires { ⌜ Within g (length (now image)) × StandIn g stand ⌝ }
-    ensures { λ r. ⌜ ComesTo (triedAs g) (FoundIn g) g b (withRepair g (nextStep g (length (now (buffer .entry))) (oldest .0)) (standAs stand) (now (image .entry))) (now (image .entry)) (now (image .exit)) (now (buffer .entry)) (now (buffer .exit)) (r .spent) (r .found) ⌝ }
+    ensures { λ r. ⌜ ComesTo (triedAs g) (FoundIn g) g b (withRepair g (nextStep g (length (now (buffer .entry))) (oldest .0) clears) (standAs stand) (now (image .entry))) (now (image .entry)) (now (image .exit)) (now (buffer .entry)) (now (buffer .exit)) (r .spent) (r .found) ⌝ }
 {
-    let searched = next_inner(image, buffer, b, g, oldest, stand);
+    let searched = next_inner(image, buffer, b, g, oldest, clears, stand);
     let spent = searched.spent;
     if spent.cut {
         return searched;
@@ -239,7 +246,7 @@ fn next(
             found: Found::Failed(stood),
         };
     }
-    next_inner(image, buffer, repaired.budget, g, oldest, stood)
+    next_inner(image, buffer, repaired.budget, g, oldest, clears, stood)
 }
 
 // The Rust's loop has no bound. Two turns for each page are enough, since the search ends before it is back at the oldest page.
@@ -249,16 +256,17 @@ fn next_inner(
     b: Budget,
     g: Geometry,
     oldest: Page,
-    start: Stand,
+    clears: bool,
+    start: NextAddress,
 ) -> Searched
     requires { ⌜ Within g (length (now image)) × StandIn g start ⌝ }
-    ensures { λ r. ⌜ ComesTo (triedAs g) (FoundIn g) g b (nextStep g (length (now (buffer .entry))) (oldest .0) (standAs start) (now (image .entry))) (now (image .entry)) (now (image .exit)) (now (buffer .entry)) (now (buffer .exit)) (r .spent) (r .found) ⌝ }
+    ensures { λ r. ⌜ ComesTo (triedAs g) (FoundIn g) g b (nextStep g (length (now (buffer .entry))) (oldest .0) clears (standAs start) (now (image .entry))) (now (image .entry)) (now (image .exit)) (now (buffer .entry)) (now (buffer .exit)) (r .spent) (r .found) ⌝ }
 {
     let mut budget = b;
     let mut stand = start;
     let mut turns = 2 * g.pages;
     while 0 < turns {
-        let turned = take_turn(image, buffer, budget, g, oldest, stand);
+        let turned = take_turn(image, buffer, budget, g, oldest, clears, stand);
         let spent = turned.spent;
         if spent.cut {
             let found = Found::Nothing;
@@ -287,14 +295,15 @@ fn take_turn(
     b: Budget,
     g: Geometry,
     oldest: Page,
-    stand: Stand,
+    clears: bool,
+    stand: NextAddress,
 ) -> Turned
     requires { ⌜ Within g (length (now image)) × StandIn g stand ⌝ }
-    ensures { λ r. ⌜ ComesTo (turnAs g) (TurnIn g) g b (turnFrom g (length (now (buffer .entry))) (oldest .0) (standAs stand) (now (image .entry))) (now (image .entry)) (now (image .exit)) (now (buffer .entry)) (now (buffer .exit)) (r .spent) (r .turn) ⌝ }
+    ensures { λ r. ⌜ ComesTo (turnAs g) (TurnIn g) g b (turnFrom g (length (now (buffer .entry))) (oldest .0) clears (standAs stand) (now (image .entry))) (now (image .entry)) (now (image .exit)) (now (buffer .entry)) (now (buffer .exit)) (r .spent) (r .turn) ⌝ }
 {
     match stand {
-        Stand::OnPage(p) => {
-            let turn = read_page(&image[..], buffer, g, p);
+        NextAddress::Address(address) => {
+            let turn = read_page(&image[..], buffer, g, address);
             Turned {
                 spent: Spent {
                     cut: false,
@@ -303,21 +312,22 @@ fn take_turn(
                 turn,
             }
         }
-        Stand::AfterPage(p) => leave_page(image, b, g, oldest, p),
+        NextAddress::PageAfter(p) => leave_page(image, b, g, oldest, clears, p),
     }
 }
 
 // ---- on a page
 
-fn read_page(image: &[u8], buffer: &mut [u8], g: Geometry, p: Page) -> Turn
-    requires { ⌜ Within g (length (now image)) × (p .0 < g .pages) ⌝ }
-    ensures { λ r. ⌜ Copies (turnAs g) (TurnIn g) g (readTurn g (length (now (buffer .entry))) (p .0) (now (image .entry))) (now (image .entry)) (now (buffer .entry)) (now (buffer .exit)) r ⌝ }
+// The items from the address on: they end with the data of its page.
+fn read_page(image: &[u8], buffer: &mut [u8], g: Geometry, address: Address) -> Turn
+    requires { ⌜ Within g (length (now image)) × ReadableFrom g (address .0) ⌝ }
+    ensures { λ r. ⌜ Copies (turnAs g) (TurnIn g) g (readTurn g (length (now (buffer .entry))) (address .0) (now (image .entry))) (now (image .entry)) (now (buffer .entry)) (now (buffer .exit)) r ⌝ }
 {
-    let start = chip::page_data_start_address(g, p);
+    let p = chip::calculate_page_index(g, address);
     let end = chip::page_data_end_address(g, p);
-    let met = read_items(image, buffer, g, start, end);
+    let met = read_items(image, buffer, g, address, end);
     match met {
-        Met::Passed => Turn::Goes(Stand::AfterPage(p)),
+        Met::Passed => Turn::Goes(NextAddress::PageAfter(p)),
         Met::TooSmall(size) => Turn::Ends(Found::TooSmall(size)),
         Met::Present(item) => Turn::Ends(Found::Present(item)),
     }
@@ -369,11 +379,18 @@ fn logic_bug() -> Met
 
 // ---- leaving a page
 
-// Nothing in page p is present. Where the search goes on behind it, p is erased at once, torn items and all, so that no later search has to
-// go through it again.
-fn leave_page(image: &mut [u8], b: Budget, g: Geometry, oldest: Page, p: Page) -> Turned
+// `clears` says that nothing in page p is present. Where the search goes on behind it, p is then erased at once, torn items and all, so that
+// no later search has to go through it again.
+fn leave_page(
+    image: &mut [u8],
+    b: Budget,
+    g: Geometry,
+    oldest: Page,
+    clears: bool,
+    p: Page,
+) -> Turned
     requires { ⌜ Within g (length (now image)) × (p .0 < g .pages) ⌝ }
-    ensures { λ r. ⌜ Stores (turnAs g) (TurnIn g) g b (leaveTurn g (oldest .0) (p .0) (now (image .entry))) (now (image .entry)) (now (image .exit)) (r .spent) (r .turn) ⌝ }
+    ensures { λ r. ⌜ Stores (turnAs g) (TurnIn g) g b (leaveTurn g (oldest .0) clears (p .0) (now (image .entry))) (now (image .entry)) (now (image .exit)) (r .spent) (r .turn) ⌝ }
 {
     let kept = Spent {
         cut: false,
@@ -384,7 +401,7 @@ fn leave_page(image: &mut [u8], b: Budget, g: Geometry, oldest: Page, p: Page) -
     if page::is_same(state, PageState::Corrupted) {
         return Turned {
             spent: kept,
-            turn: Turn::Ends(Found::Failed(Stand::AfterPage(p))),
+            turn: Turn::Ends(Found::Failed(NextAddress::PageAfter(p))),
         };
     }
     if page::is_same(state, PageState::Open) || next_page.0 == oldest.0 {
@@ -393,9 +410,11 @@ fn leave_page(image: &mut [u8], b: Budget, g: Geometry, oldest: Page, p: Page) -
             turn: Turn::Ends(Found::Nothing),
         };
     }
-    let erased = page::open_page(image, b, g, p);
-    Turned {
-        spent: erased,
-        turn: Turn::Goes(Stand::OnPage(next_page)),
+    let address = chip::page_data_start_address(g, next_page);
+    let turn = Turn::Goes(NextAddress::Address(address));
+    if clears {
+        let spent = page::open_page(image, b, g, p);
+        return Turned { spent, turn };
     }
+    Turned { spent: kept, turn }
 }

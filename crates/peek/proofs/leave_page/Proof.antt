@@ -3,7 +3,8 @@ use borrow.Author.Needs.{needs}
 use mathlib.Core.Path.{sym, _∙_}
 use mathlib.Core.Logic.{⊎-elim}
 use borrow.Author.Tests.{eqb-true, eqb-false}
-use Rattle.peek.proofs.Leaving.{leave-fails, leave-open, leave-round, leave-behind}
+use Rattle.peek.proofs.Standing.{start-readable}
+use Rattle.peek.proofs.Leaving.{leave-fails, leave-open, leave-round, leave-kept, leave-erased}
 use Rattle.peek.proofs.leave_page.Statement.{statement}
 use Rattle.peek.proofs.leave_page.Tie as tie
 
@@ -20,7 +21,7 @@ same-length : tie.Need-same-length
 same-length c = search needs
 
 returns : tie.Need-returns
-returns c = record { shows = leave-fails (c .before .before .before .before .before .before .args .g) (c .before .before .before .before .before .before .args .b) (c .before .before .before .before .before .before .args .image .now) (c .before .before .before .before .before .before .args .oldest .0) (c .before .before .before .before .before .before .args .p .0) (c .before .before .before .before .next-page .ensures .0) (c .before .before .get-page-state .ensures) (sym (c .before .is-same .ensures) ∙ c .if1 .taken); within = c .before .before .before .before .before .before .pre .1 }
+returns c = record { shows = leave-fails (c .before .before .before .before .before .before .args .g) (c .before .before .before .before .before .before .args .b) (c .before .before .before .before .before .before .args .image .now) (c .before .before .before .before .before .before .args .oldest .0) (c .before .before .before .before .before .before .args .clears) (c .before .before .before .before .before .before .args .p .0) (c .before .before .before .before .next-page .ensures .0) (c .before .before .get-page-state .ensures) (sym (c .before .is-same .ensures) ∙ c .if1 .taken); within = c .before .before .before .before .before .before .pre .1 }
 
 is-same-requires-2 : tie.Need-is-same-requires-2
 is-same-requires-2 c κs = search needs
@@ -37,11 +38,14 @@ returns-2 c =
     let test = c .before .is-same2 .ensures in
     record {
       shows = ⊎-elim
-          (λ w. leave-open (a .g) (a .b) (a .image .now) (a .oldest .0) (a .p .0) n s sound (sym test ∙ w .taken))
-          (λ w. leave-round (a .g) (a .b) (a .image .now) (a .oldest .0) (a .p .0) n s sound (sym test ∙ w .0 .left) (eqb-true _ _ (w .3 .taken)))
+          (λ w. leave-open (a .g) (a .b) (a .image .now) (a .oldest .0) (a .clears) (a .p .0) n s sound (sym test ∙ w .taken))
+          (λ w. leave-round (a .g) (a .b) (a .image .now) (a .oldest .0) (a .clears) (a .p .0) n s sound (sym test ∙ w .0 .left) (eqb-true _ _ (w .3 .taken)))
           (c .if2 .came);
       within = tt;
     }
+
+page-data-start-address-requires : tie.Need-page-data-start-address-requires
+page-data-start-address-requires c κs = (c .before .before .before .before .before .before .before .before .before .before .before .pre .0 .good, c .before .before .before .before .before .before .before .before .before .next-page .ensures .1)
 
 open-page-requires : tie.Need-open-page-requires
 open-page-requires c κs = search needs
@@ -51,10 +55,28 @@ same-length-3 c = search needs
 
 returns-3 : tie.Need-returns-3
 returns-3 c =
-    let a = c .before .before .before .before .before .before .before .before .before .before .before .before .before .before .before .args in
-    let sound = sym (c .before .before .before .before .before .before .before .before .before .before .is-same .ensures) ∙ c .before .before .before .before .before .before .before .before .before .if1 .left in
-    let used = sym (c .before .before .before .before .before .before .before .before .is-same2 .ensures) ∙ c .before .before .before .before .before .before .before .if2 .left in
-    record { shows = leave-behind (a .g) (a .b) (a .image .now) (a .oldest .0) (a .p .0) (c .before .before .before .before .before .before .before .before .before .before .before .before .before .next-page .ensures .0) (c .before .before .before .before .before .before .before .before .before .before .before .get-page-state .ensures) sound used (eqb-false _ _ (c .before .before .before .before .if3 .left)) (c .before .before .open-page .ensures); within = c .before .before .before .before .before .before .before .before .before .before .before .before .before .next-page .ensures .1 }
+    let a = c .before .before .before .before .before .before .before .before .before .before .before .before .before .before .before .before .before .args in
+    let sound = sym (c .before .before .before .before .before .before .before .before .before .before .before .before .is-same .ensures) ∙ c .before .before .before .before .before .before .before .before .before .before .before .if1 .left in
+    let used = sym (c .before .before .before .before .before .before .before .before .before .before .is-same2 .ensures) ∙ c .before .before .before .before .before .before .before .before .before .if2 .left in
+    let address = c .before .before .before .before .before .page-data-start-address .ensures in
+    record {
+      shows = leave-erased (a .g) (a .b) (a .image .now) (a .oldest .0) (a .clears) (a .p .0) (c .before .before .before .before .before .before .before .before .before .before .before .before .before .before .before .next-page .ensures .0) (c .before .before .before .before .before .before .before .before .before .before .before .before .before .get-page-state .ensures) sound used (eqb-false _ _ (c .before .before .before .before .before .before .if3 .left)) address (c .before .before .before .before .if4 .taken) (c .before .before .open-page .ensures);
+      within = start-readable (c .before .before .before .before .before .before .before .before .before .before .before .before .before .before .before .before .before .pre .0) (c .before .before .before .before .before .before .before .before .before .before .before .before .before .before .before .next-page .ensures .1) address;
+    }
+
+same-length-4 : tie.Need-same-length-4
+same-length-4 c = search needs
+
+returns-4 : tie.Need-returns-4
+returns-4 c =
+    let a = c .before .before .before .before .before .before .before .before .before .before .before .before .before .args in
+    let sound = sym (c .before .before .before .before .before .before .before .before .is-same .ensures) ∙ c .before .before .before .before .before .before .before .if1 .left in
+    let used = sym (c .before .before .before .before .before .before .is-same2 .ensures) ∙ c .before .before .before .before .before .if2 .left in
+    let address = c .before .page-data-start-address .ensures in
+    record {
+      shows = leave-kept (a .g) (a .b) (a .image .now) (a .oldest .0) (a .clears) (a .p .0) (c .before .before .before .before .before .before .before .before .before .before .before .next-page .ensures .0) (c .before .before .before .before .before .before .before .before .before .get-page-state .ensures) sound used (eqb-false _ _ (c .before .before .if3 .left)) address (c .if4 .left);
+      within = start-readable (c .before .before .before .before .before .before .before .before .before .before .before .before .before .pre .0) (c .before .before .before .before .before .before .before .before .before .before .before .next-page .ensures .1) address;
+    }
 
 pub leave-page-spec : {M : Type 1} → statement M
 leave-page-spec =
@@ -68,6 +90,9 @@ leave-page-spec =
     is-same-requires-2
     same-length-2
     returns-2
+    page-data-start-address-requires
     open-page-requires
     same-length-3
-    returns-3)
+    returns-3
+    same-length-4
+    returns-4)

@@ -18,7 +18,7 @@ same-length-2 : tie.Need-same-length-2
 same-length-2 c = search needs
 
 returns : tie.Need-returns
-returns c = record { shows = showed-repair-cut (nextStep (c .before .before .before .before .before .before .before .before .before .before .before .args .g) _ _) _ (c .before .before .before .before .before .before .next-inner .ensures .shows) _ (c .if1 .taken); within = c .before .before .before .before .before .before .next-inner .ensures .within }
+returns c = record { shows = showed-repair-cut (nextStep (c .before .before .before .before .before .before .before .before .before .before .before .args .g) _ _ _) _ (c .before .before .before .before .before .before .next-inner .ensures .shows) _ (c .if1 .taken); within = c .before .before .before .before .before .before .next-inner .ensures .within }
 
 enum-known-found : tie.Need-enum-known-found
 enum-known-found c = search needs
@@ -32,7 +32,7 @@ same-length-4 c = search needs
 returns-2 : tie.Need-returns-2
 returns-2 c =
     let e = not-failed (c .before .before .before .before .before .before .before .before .before .before .before .before .args .g) (c .before .before .before .before .before .before .before .next-inner .last .0) (c .before .before .before .before .before .before .before .next-inner .result .found) (c .match .keys2) in
-    record { shows = (rw e (showed-repair-gives (nextStep (c .before .before .before .before .before .before .before .before .before .before .before .before .args .g) _ _) _ (c .before .before .before .before .before .before .before .next-inner .ensures .shows) _ e (c .before .if1 .left))); within = c .before .before .before .before .before .before .before .next-inner .ensures .within }
+    record { shows = (rw e (showed-repair-gives (nextStep (c .before .before .before .before .before .before .before .before .before .before .before .before .args .g) _ _ _) _ (c .before .before .before .before .before .before .before .next-inner .ensures .shows) _ e (c .before .if1 .left))); within = c .before .before .before .before .before .before .before .next-inner .ensures .within }
 
 try-general-repair-requires : tie.Need-try-general-repair-requires
 try-general-repair-requires c κs = rw (c .before .before .before .before .before .before .before .before .before .before .next-inner .kept .0) (c .before .before .before .before .before .before .before .before .before .before .before .before .before .before .before .pre .0)
@@ -44,7 +44,7 @@ same-length-6 : tie.Need-same-length-6
 same-length-6 c = search needs
 
 returns-3 : tie.Need-returns-3
-returns-3 c = record { shows = showed-repair-stops (nextStep (c .before .before .before .before .before .before .before .before .before .before .before .before .before .before .before .before .before .before .before .args .g) _ _) _ (c .before .before .before .before .before .before .before .before .before .before .before .before .before .before .next-inner .ensures .shows) _ (ap (triedAs (c .before .before .before .before .before .before .before .before .before .before .before .before .before .before .before .before .before .before .before .args .g) _) (c .before .before .before .before .before .before .found .given .1)) (c .before .before .before .before .before .before .before .before .if1 .left) (c .before .before .before .try-general-repair .ensures) _ (c .if2 .taken); within = (rw (c .before .before .before .before .before .before .found .given .1) at (c .before .before .before .before .before .before .before .before .before .before .before .before .before .before .next-inner .ensures .within)) }
+returns-3 c = record { shows = showed-repair-stops (nextStep (c .before .before .before .before .before .before .before .before .before .before .before .before .before .before .before .before .before .before .before .args .g) _ _ _) _ (c .before .before .before .before .before .before .before .before .before .before .before .before .before .before .next-inner .ensures .shows) _ (ap (triedAs (c .before .before .before .before .before .before .before .before .before .before .before .before .before .before .before .before .before .before .before .args .g) _) (c .before .before .before .before .before .before .found .given .1)) (c .before .before .before .before .before .before .before .before .if1 .left) (c .before .before .before .try-general-repair .ensures) _ (c .if2 .taken); within = (rw (c .before .before .before .before .before .before .found .given .1) at (c .before .before .before .before .before .before .before .before .before .before .before .before .before .before .next-inner .ensures .within)) }
 
 next-inner-requires-2 : tie.Need-next-inner-requires-2
 next-inner-requires-2 c κs = ((rw (c .before .before .before .before .before .try-general-repair .kept .0, c .before .before .before .before .before .before .before .before .before .before .before .before .before .before .before .before .next-inner .kept .0) (c .before .before .before .before .before .before .before .before .before .before .before .before .before .before .before .before .before .before .before .before .before .pre .0)), (rw (c .before .before .before .before .before .before .before .before .found .given .1) at (c .before .before .before .before .before .before .before .before .before .before .before .before .before .before .before .before .next-inner .ensures .within)))
@@ -56,7 +56,7 @@ same-length-8 : tie.Need-same-length-8
 same-length-8 c = search needs
 
 returns-4 : tie.Need-returns-4
-returns-4 c = record { shows = showed-repair-again (nextStep (c .before .before .before .before .before .before .before .before .before .before .before .before .before .before .before .before .before .before .before .before .before .before .before .before .before .before .args .g) _ _) _ (c .before .before .before .before .before .before .before .before .before .before .before .before .before .before .before .before .before .before .before .before .before .next-inner .ensures .shows) _ (ap (triedAs (c .before .before .before .before .before .before .before .before .before .before .before .before .before .before .before .before .before .before .before .before .before .before .before .before .before .before .args .g) _) (c .before .before .before .before .before .before .before .before .before .before .before .before .before .found .given .1)) (c .before .before .before .before .before .before .before .before .before .before .before .before .before .before .before .if1 .left) (c .before .before .before .before .before .before .before .before .before .before .try-general-repair .ensures) (c .before .before .before .before .before .before .before .if2 .left) (rw (c .before .before .before .before .before .before .before .before .before .before .before .before .before .before .before .before .before .before .before .before .before .next-inner .kept .1 .0) at (c .before .before .before .before .next-inner2 .ensures .shows)); within = c .before .before .before .before .next-inner2 .ensures .within }
+returns-4 c = record { shows = showed-repair-again (nextStep (c .before .before .before .before .before .before .before .before .before .before .before .before .before .before .before .before .before .before .before .before .before .before .before .before .before .before .args .g) _ _ _) _ (c .before .before .before .before .before .before .before .before .before .before .before .before .before .before .before .before .before .before .before .before .before .next-inner .ensures .shows) _ (ap (triedAs (c .before .before .before .before .before .before .before .before .before .before .before .before .before .before .before .before .before .before .before .before .before .before .before .before .before .before .args .g) _) (c .before .before .before .before .before .before .before .before .before .before .before .before .before .found .given .1)) (c .before .before .before .before .before .before .before .before .before .before .before .before .before .before .before .if1 .left) (c .before .before .before .before .before .before .before .before .before .before .try-general-repair .ensures) (c .before .before .before .before .before .before .before .if2 .left) (rw (c .before .before .before .before .before .before .before .before .before .before .before .before .before .before .before .before .before .before .before .before .before .next-inner .kept .1 .0) at (c .before .before .before .before .next-inner2 .ensures .shows)); within = c .before .before .before .before .next-inner2 .ensures .within }
 
 pub next-spec : {M : Type 1} → statement M
 next-spec =

@@ -1,21 +1,21 @@
--- `peek::read_page` meets its contract: the items of a page are those of its data. Assumes nothing.
+-- `peek::read_page` meets its contract: the items from the address on are those of what is left of its page's data. Assumes nothing.
 use borrow.Author.Needs.{needs}
 use mathlib.Core.Path.{ap}
 use Rattle.paper.specs.Calls.{passed, long, met}
-use Rattle.item.proofs.PageScan.{page-inside}
 use Rattle.peek.specs.Meanings.{metAs}
 use Rattle.peek.proofs.ReadingItems.{page-read}
+use Rattle.peek.proofs.Standing.{left-inside}
 use Rattle.peek.proofs.read_page.Statement.{statement}
 use Rattle.peek.proofs.read_page.Tie as tie
 
-page-data-start-address-requires : tie.Need-page-data-start-address-requires
-page-data-start-address-requires c κs = (c .before .before .pre .0 .good, c .before .before .pre .1)
+calculate-page-index-requires : tie.Need-calculate-page-index-requires
+calculate-page-index-requires c κs = (c .before .before .pre .0 .good, c .before .before .pre .1 .low, c .before .before .pre .1 .high)
 
 page-data-end-address-requires : tie.Need-page-data-end-address-requires
-page-data-end-address-requires c κs = (c .before .before .before .pre .0 .good, c .before .before .before .pre .1)
+page-data-end-address-requires c κs = (c .before .before .before .pre .0 .good, c .calculate-page-index .ensures .1)
 
 read-items-requires : tie.Need-read-items-requires
-read-items-requires c κs = page-inside (c .before .before .before .before .before .args .image .now) (c .before .before .before .before .before .pre .0) (c .before .before .before .before .before .pre .1) (c .before .before .page-data-start-address .ensures) (c .before .page-data-end-address .ensures)
+read-items-requires c κs = left-inside (c .before .before .before .before .before .pre .0) (c .before .before .calculate-page-index .ensures .1) (c .before .before .calculate-page-index .ensures .0) (c .before .before .before .before .before .pre .1) (c .before .page-data-end-address .ensures)
 
 enum-told : tie.Need-enum-told
 enum-told c = search needs
@@ -30,25 +30,25 @@ same-length : tie.Need-same-length
 same-length c = search needs
 
 returns : tie.Need-returns
-returns c = record { shows = page-read (c .before .before .before .before .before .before .before .before .before .before .args .image .now) _ passed (c .before .before .before .before .before .before .before .before .before .before .pre .0) (c .before .before .before .before .before .before .before .before .before .before .pre .1) (c .before .before .before .before .before .before .before .page-data-start-address .ensures) (c .before .before .before .before .before .before .page-data-end-address .ensures) (c .before .before .before .before .read-items .ensures .shows) (ap (metAs (c .before .before .before .before .before .before .before .before .before .before .args .g) _) (c .enum-told .given .1)); within = c .before .before .before .before .before .before .before .before .before .before .pre .1 }
+returns c = record { shows = page-read (c .before .before .before .before .before .before .before .before .before .before .args .g) (c .before .before .before .before .before .before .before .before .before .before .args .image .now) (c .before .before .before .before .before .before .before .before .before .before .args .address .0) _ passed (c .before .before .before .before .before .before .before .calculate-page-index .ensures .0) (c .before .before .before .before .before .before .page-data-end-address .ensures) (c .before .before .before .before .read-items .ensures .shows) (ap (metAs (c .before .before .before .before .before .before .before .before .before .before .args .g) _) (c .enum-told .given .1)); within = c .before .before .before .before .before .before .before .calculate-page-index .ensures .1 }
 
 same-length-2 : tie.Need-same-length-2
 same-length-2 c = search needs
 
 returns-2 : tie.Need-returns-2
-returns-2 c = record { shows = page-read (c .before .before .before .before .before .before .before .before .before .before .before .args .image .now) _ (long _) (c .before .before .before .before .before .before .before .before .before .before .before .pre .0) (c .before .before .before .before .before .before .before .before .before .before .before .pre .1) (c .before .before .before .before .before .before .before .before .page-data-start-address .ensures) (c .before .before .before .before .before .before .before .page-data-end-address .ensures) (c .before .before .before .before .before .read-items .ensures .shows) (ap (metAs (c .before .before .before .before .before .before .before .before .before .before .before .args .g) _) (c .before .met .given .1)); within = tt }
+returns-2 c = record { shows = page-read (c .before .before .before .before .before .before .before .before .before .before .before .args .g) (c .before .before .before .before .before .before .before .before .before .before .before .args .image .now) (c .before .before .before .before .before .before .before .before .before .before .before .args .address .0) _ (long _) (c .before .before .before .before .before .before .before .before .calculate-page-index .ensures .0) (c .before .before .before .before .before .before .before .page-data-end-address .ensures) (c .before .before .before .before .before .read-items .ensures .shows) (ap (metAs (c .before .before .before .before .before .before .before .before .before .before .before .args .g) _) (c .before .met .given .1)); within = tt }
 
 same-length-3 : tie.Need-same-length-3
 same-length-3 c = search needs
 
 returns-3 : tie.Need-returns-3
-returns-3 c = record { shows = page-read (c .before .before .before .before .before .before .before .before .before .before .before .args .image .now) _ (met _) (c .before .before .before .before .before .before .before .before .before .before .before .pre .0) (c .before .before .before .before .before .before .before .before .before .before .before .pre .1) (c .before .before .before .before .before .before .before .before .page-data-start-address .ensures) (c .before .before .before .before .before .before .before .page-data-end-address .ensures) (c .before .before .before .before .before .read-items .ensures .shows) (ap (metAs (c .before .before .before .before .before .before .before .before .before .before .before .args .g) _) (c .before .met2 .given .1)); within = (rw (c .before .met2 .given .1) at (c .before .before .before .before .before .read-items .ensures .within)) }
+returns-3 c = record { shows = page-read (c .before .before .before .before .before .before .before .before .before .before .before .args .g) (c .before .before .before .before .before .before .before .before .before .before .before .args .image .now) (c .before .before .before .before .before .before .before .before .before .before .before .args .address .0) _ (met _) (c .before .before .before .before .before .before .before .before .calculate-page-index .ensures .0) (c .before .before .before .before .before .before .before .page-data-end-address .ensures) (c .before .before .before .before .before .read-items .ensures .shows) (ap (metAs (c .before .before .before .before .before .before .before .before .before .before .before .args .g) _) (c .before .met2 .given .1)); within = (rw (c .before .met2 .given .1) at (c .before .before .before .before .before .read-items .ensures .within)) }
 
 pub read-page-spec : {M : Type 1} → statement M
 read-page-spec =
     tie.close
     (tie.spec
-    page-data-start-address-requires
+    calculate-page-index-requires
     page-data-end-address-requires
     read-items-requires
     enum-told

@@ -6,6 +6,7 @@ use Rattle.paper.specs.Calls.{searchOn, spoilt}
 use Rattle.paper.specs.Calls as calls
 use Rattle.chip.proofs.Binding.{showed-bind-cut, showed-bind-then, showed-turned, showed-kept}
 use Rattle.page.specs.Searches.{chosenAs}
+use Rattle.peek.proofs.Standing.{start-readable}
 use Rattle.peek.proofs.search.Statement.{statement}
 use Rattle.peek.proofs.search.Tie as tie
 
@@ -25,8 +26,11 @@ enum-told c = search needs
 enum-known-start : tie.Need-enum-known-start
 enum-known-start c = search needs
 
+page-data-start-address-requires : tie.Need-page-data-start-address-requires
+page-data-start-address-requires c κs = (c .before .before .before .before .before .before .before .before .before .before .before .pre .good, c .before .before .before .before .before .before .before .find-start .ensures .within _ (ap chosenAs (c .before .start .given .1)))
+
 next-requires : tie.Need-next-requires
-next-requires c κs = ((rw (c .before .before .before .before .before .before .before .before .before .find-start .kept .0) (c .before .before .before .before .before .before .before .before .before .before .before .before .before .pre)), c .before .before .before .before .before .before .before .before .before .find-start .ensures .within _ (ap chosenAs (c .before .before .before .start .given .1)))
+next-requires c κs = ((rw (c .before .before .before .before .before .before .before .before .before .before .find-start .kept .0) (c .before .before .before .before .before .before .before .before .before .before .before .before .before .before .pre)), start-readable (c .before .before .before .before .before .before .before .before .before .before .before .before .before .before .pre) (c .before .before .before .before .before .before .before .before .before .before .find-start .ensures .within _ (ap chosenAs (c .before .before .before .before .start .given .1))) (c .before .before .page-data-start-address .ensures))
 
 same-length-2 : tie.Need-same-length-2
 same-length-2 c = search needs
@@ -43,7 +47,7 @@ same-length-4 c = search needs
 
 returns-3 : tie.Need-returns-3
 unfolding calls.search searchOn
-returns-3 c = record { shows = showed-bind-then (searchOn (c .before .before .before .before .before .before .before .before .before .before .before .before .before .before .before .before .before .before .args .g) _) (c .before .before .before .before .before .before .before .before .before .before .before .before .before .before .find-start .ensures .shows _) (c .before .before .before .before .before .before .before .before .before .before .if1 .left) (rw (c .before .before .before .before .before .before .before .before .start .given .1) (showed-turned (settled spoilt) (c .before .before .before .before .next .ensures .shows))); within = c .before .before .before .before .next .ensures .within }
+returns-3 c = record { shows = showed-bind-then (searchOn (c .before .before .before .before .before .before .before .before .before .before .before .before .before .before .before .before .before .before .before .args .g) _) (c .before .before .before .before .before .before .before .before .before .before .before .before .before .before .before .find-start .ensures .shows _) (c .before .before .before .before .before .before .before .before .before .before .before .if1 .left) (rw (c .before .before .before .before .before .before .before .before .before .start .given .1, ← c .before .before .before .before .before .before .before .page-data-start-address .ensures) (showed-turned (settled spoilt) (c .before .before .before .before .next .ensures .shows))); within = c .before .before .before .before .next .ensures .within }
 
 pub search-spec : {M : Type 1} → statement M
 search-spec =
@@ -54,6 +58,7 @@ search-spec =
     returns
     enum-told
     enum-known-start
+    page-data-start-address-requires
     next-requires
     same-length-2
     returns-2
