@@ -27,6 +27,7 @@ fn main() {
         panic!("usage: replay CALLS LINES");
     };
     let mut record = Record::default();
+    worked(&mut record);
     smallest_pages(&mut record);
     for word in WORDS {
         lengths(word, &mut record);
@@ -54,8 +55,8 @@ fn main() {
 struct Record {
     calls: Vec<u8>,
     lines: String,
-    image: Vec<u8>,
-    shape: Option<Shape>,
+    /// what the program's image holds; behind the end of a short image stands what earlier ones left there
+    room: Vec<u8>,
     waiting: Option<(Case, Outcome)>,
     by_call: BTreeMap<String, usize>,
     /// by word and row
@@ -73,20 +74,8 @@ impl Record {
         }
         self.write_waiting(Some(&case.image));
         self.count(&case, &outcome);
-        self.write_changes(&case.image);
-        if self.shape != Some(case.shape) {
-            let Shape {
-                start,
-                end,
-                page,
-                word,
-            } = case.shape;
-            self.calls.push(b'S');
-            for number in [start, end, page, word] {
-                self.write_number(number as usize);
-            }
-            self.shape = Some(case.shape);
-        }
+        self.calls.extend(changes(&self.room, &case.image));
+        lay(&mut self.room, &case.image);
         self.waiting = Some((case, outcome));
     }
 
@@ -98,51 +87,48 @@ impl Record {
         let Some((case, outcome)) = self.waiting.take() else {
             return;
         };
-        let is_on_copy = next.is_some_and(|next| {
-            changes(&case.image, next).len() < changes(&outcome.image, next).len()
-        });
+        let mut left = self.room.clone();
+        lay(&mut left, &outcome.image);
+        let is_on_copy =
+            next.is_some_and(|next| changes(&self.room, next).len() < changes(&left, next).len());
         self.write_call(&case, is_on_copy);
         self.write_line(&case, &outcome);
-        self.image = if is_on_copy {
-            case.image
-        } else {
-            outcome.image
-        };
+        if !is_on_copy {
+            self.room = left;
+        }
     }
 
     fn write_call(&mut self, case: &Case, is_on_copy: bool) {
         let flags = u8::from(case.overwrite)
             + 2 * u8::from(case.limit.is_some())
             + 4 * u8::from(is_on_copy);
-        self.calls.extend([b'C', letter(case.call), flags]);
-        if let Some(limit) = case.limit {
-            self.write_number(limit);
-        }
-        match case.call {
-            Call::Push => write_run(&mut self.calls, &case.slip),
-            Call::Peek | Call::Pop => write_run(&mut self.calls, &case.buffer),
-            _ => (),
-        }
+        let lent: &[u8] = match case.call {
+            Call::Push => &case.slip,
+            Call::Peek | Call::Pop => &case.buffer,
+            _ => &[],
+        };
+        let Shape {
+            start,
+            end,
+            page,
+            word,
+        } = case.shape;
+        let limit = u32::try_from(case.limit.unwrap_or(0)).unwrap();
+        let size = case.image.len() as u32;
+        let numbers = [limit, size, start, end, page, word];
+        write_record(&mut self.calls, letter(case.call), flags, lent, numbers);
     }
 
     fn write_line(&mut self, case: &Case, outcome: &Outcome) {
-        let numbers: Vec<String> = outcome.numbers.iter().map(u32::to_string).collect();
         let call = char::from(letter(case.call));
+        let code = code(case.call, &outcome.numbers);
+        let lent = match case.call {
+            Call::Push => shown(&case.slip),
+            Call::Peek | Call::Pop => shown(&outcome.buffer),
+            _ => String::new(),
+        };
         let image = shown(&outcome.image);
-        write!(self.lines, "{call} {} {image}", numbers.join(",")).unwrap();
-        if matches!(case.call, Call::Peek | Call::Pop) {
-            write!(self.lines, " {}", shown(&outcome.buffer)).unwrap();
-        }
-        self.lines.push('\n');
-    }
-
-    fn write_changes(&mut self, image: &[u8]) {
-        self.calls.extend(changes(&self.image, image));
-        self.image = image.to_vec();
-    }
-
-    fn write_number(&mut self, number: usize) {
-        write_number(&mut self.calls, number);
+        writeln!(self.lines, "{call} {code:016x} {image} {lent}").unwrap();
     }
 
     fn count(&mut self, case: &Case, outcome: &Outcome) {
@@ -205,54 +191,65 @@ fn letter(call: Call) -> u8 {
     }
 }
 
+/// An answer as the one number that crates/codes makes of it: the row below 2^32, the value above, and the largest value for no fit.
+fn code(call: Call, numbers: &[u32]) -> u64 {
+    let value = match (call, numbers) {
+        (Call::FindMaxFit, [0]) => u32::MAX,
+        (_, [_, value]) => *value,
+        _ => 0,
+    };
+    (u64::from(value) << 32) + u64::from(numbers[0])
+}
+
 fn shown(bytes: &[u8]) -> String {
-    match bytes.len() {
-        0 => "-".into(),
-        1..=FEW => bytes.iter().map(|byte| format!("{byte:02x}")).collect(),
-        _ => format!("{:08x}", data_crc(bytes)),
+    if bytes.len() > FEW {
+        return format!("{:08x}", data_crc(bytes));
     }
+    bytes.iter().map(|byte| format!("{byte:02x}")).collect()
 }
 
-fn write_number(calls: &mut Vec<u8>, number: usize) {
-    calls.extend(u32::try_from(number).unwrap().to_le_bytes());
-}
-
-fn write_run(calls: &mut Vec<u8>, bytes: &[u8]) {
-    write_number(calls, bytes.len());
+/// A record, and behind it its bytes, unless they are all the same. `numbers` are those behind the count: at, size and the shape.
+fn write_record(calls: &mut Vec<u8>, letter: u8, flags: u8, bytes: &[u8], numbers: [u32; 6]) {
     let first = bytes.first().copied().unwrap_or(0);
-    if bytes.iter().all(|byte| *byte == first) {
-        calls.extend([0, first]);
-    } else {
-        calls.push(1);
+    let is_filled = bytes.iter().all(|byte| *byte == first);
+    calls.extend([letter, flags + 8 * u8::from(is_filled), first, 0]);
+    calls.extend(u32::try_from(bytes.len()).unwrap().to_le_bytes());
+    calls.extend(numbers.iter().flat_map(|number| number.to_le_bytes()));
+    if !is_filled {
         calls.extend(bytes);
     }
 }
 
-/// The shortest records known that make one image of another: changes of it, or a new one, blank and changed, or whole.
-fn changes(old: &[u8], new: &[u8]) -> Vec<u8> {
-    let mut whole = vec![b'L'];
-    write_run(&mut whole, new);
-    let blank = vec![0xff; new.len()];
-    let mut changed = vec![b'L'];
-    write_run(&mut changed, &blank);
-    changed.extend(patches(&blank, new));
-    let mut best = if changed.len() < whole.len() {
-        changed
-    } else {
-        whole
-    };
-    if old.len() == new.len() {
-        let patches = patches(old, new);
-        if patches.len() <= best.len() {
-            best = patches;
-        }
+fn lay(room: &mut Vec<u8>, image: &[u8]) {
+    if room.len() < image.len() {
+        room.resize(image.len(), 0);
     }
-    best
+    room[..image.len()].copy_from_slice(image);
 }
 
-/// A change for each stretch that differs. Stretches that lie close are one, since a record costs more than a few bytes.
+/// The shortest records known that lay an image in a room: changes of what is there, or of a blank, or the whole image.
+fn changes(room: &[u8], image: &[u8]) -> Vec<u8> {
+    let blank = vec![0xff; image.len()];
+    let mut erased = laid(0, &blank);
+    erased.extend(patches(&blank, image));
+    let mut all = vec![laid(0, image), erased];
+    if room.len() >= image.len() {
+        all.push(patches(room, image));
+    }
+    all.into_iter()
+        .min_by_key(Vec::len)
+        .expect("there are two at least")
+}
+
+fn laid(at: usize, bytes: &[u8]) -> Vec<u8> {
+    let mut record = vec![];
+    write_record(&mut record, b'L', 0, bytes, [at as u32, 0, 0, 0, 0, 0]);
+    record
+}
+
+/// A record for each stretch that differs. Stretches that lie closer than a record is long are one.
 fn patches(old: &[u8], new: &[u8]) -> Vec<u8> {
-    const CLOSE: usize = 10;
+    const CLOSE: usize = 32;
     let mut stretches: Vec<(usize, usize)> = vec![];
     for at in (0..new.len()).filter(|at| old[*at] != new[*at]) {
         match stretches.last_mut() {
@@ -260,13 +257,120 @@ fn patches(old: &[u8], new: &[u8]) -> Vec<u8> {
             _ => stretches.push((at, at + 1)),
         }
     }
-    let mut records = vec![];
-    for (start, end) in stretches {
-        records.push(b'P');
-        write_number(&mut records, start);
-        write_run(&mut records, &new[start..end]);
+    let records = stretches
+        .into_iter()
+        .flat_map(|(start, end)| laid(start, &new[start..end]));
+    records.collect()
+}
+
+// ---- document 01's cases
+
+/// Calls in a row on one image, each with the numbers that document 01 gives.
+struct Worked<'a> {
+    record: &'a mut Record,
+    shape: Shape,
+    image: Vec<u8>,
+}
+
+impl Worked<'_> {
+    fn asks(&mut self, case: Case, numbers: &[u32]) -> Outcome {
+        let outcome = judge(&case);
+        assert_eq!(outcome.numbers, numbers, "{:?}", case.call);
+        self.image.clone_from(&outcome.image);
+        self.record.add(case);
+        outcome
     }
-    records
+
+    fn call(&mut self, call: Call, numbers: &[u32]) {
+        let mut case = plain(call, self.shape, &self.image);
+        case.buffer = vec![0; 4];
+        self.asks(case, numbers);
+    }
+
+    fn push(&mut self, slip: &[u8], limit: Option<usize>, numbers: &[u32]) {
+        let mut case = plain(Call::Push, self.shape, &self.image);
+        case.slip = slip.to_vec();
+        case.limit = limit;
+        self.asks(case, numbers);
+    }
+
+    fn peek(&mut self, buffer: usize, numbers: &[u32]) -> Vec<u8> {
+        let mut case = plain(Call::Peek, self.shape, &self.image);
+        case.buffer = vec![0; buffer];
+        self.asks(case, numbers).buffer
+    }
+
+    /// The image's first bytes; FF follows.
+    fn has(&self, bytes: &[u8]) {
+        assert_eq!(self.image[..bytes.len()], *bytes);
+        assert!(self.image[bytes.len()..].iter().all(|byte| *byte == 0xff));
+    }
+}
+
+fn worked(record: &mut Record) {
+    empty_slip(&mut on(record, 32, 4));
+    cut_push(&mut on(record, 32, 4));
+    on(record, 32, 4).push(b"", Some(3), &[0]);
+    let mut longest = on(record, 32, 4);
+    longest.push(&[7; 17], None, &[2]);
+    longest.push(&[7; 16], None, &[0]);
+    full_page(&mut on(record, 32, 4));
+    for (page, word, row) in [(16, 4, 13), (20, 4, 0), (128, 32, 0), (96, 32, 13)] {
+        on(record, page, word).call(Call::EraseAll, &[row]);
+    }
+    let mut counts = on(record, 32, 4);
+    counts.call(Call::FindMaxFit, &[0, 24]);
+    counts.call(Call::SpaceLeft, &[0, 24]);
+    counts.push(b"", None, &[0]);
+    counts.call(Call::SpaceLeft, &[0, 16]);
+    counts.call(Call::FindMaxFit, &[5]);
+    let mut small_buffer = on(record, 32, 4);
+    small_buffer.push(b"slip!", None, &[0]);
+    small_buffer.peek(7, &[4, 8]);
+    assert_eq!(small_buffer.peek(8, &[0, 5]), b"slip!\0\0\0");
+}
+
+/// One erased page.
+fn on(record: &mut Record, page: u32, word: u32) -> Worked<'_> {
+    let shape = shape(word, page, 1);
+    Worked {
+        record,
+        shape,
+        image: erased(shape),
+    }
+}
+
+fn empty_slip(page: &mut Worked) {
+    page.push(b"", None, &[0]);
+    page.has(&[0, 0, 0, 0, 0x11, 0x11, 0x11, 0x11, 0, 0, 0x03, 0xe2]);
+    page.call(Call::Pop, &[0, 0]);
+    page.has(&[0, 0, 0, 0, 0, 0, 0, 0, 0, 0, 0x03, 0xe2]);
+}
+
+/// The list is empty, and the next push begins at the free spot, 8.
+fn cut_push(page: &mut Worked) {
+    page.push(b"", Some(2), &[7]);
+    page.call(Call::Peek, &[1]);
+    page.push(b"", None, &[0]);
+    assert_eq!(
+        page.image[8..16],
+        [0x11, 0x11, 0x11, 0x11, 0, 0, 0x03, 0xe2]
+    );
+}
+
+/// Three empty slips fill the page; a fourth gives 3, also after one pop. After three pops pushing another makes 4 stores.
+fn full_page(page: &mut Worked) {
+    for row in [0, 0, 0, 3] {
+        page.push(b"", None, &[row]);
+    }
+    page.call(Call::Pop, &[0, 0]);
+    page.push(b"", None, &[3]);
+    page.call(Call::Pop, &[0, 0]);
+    page.call(Call::Pop, &[0, 0]);
+    let full = page.image.clone();
+    page.push(b"", Some(3), &[7]);
+    page.image = full;
+    page.push(b"", Some(4), &[0]);
 }
 
 // ---- cases

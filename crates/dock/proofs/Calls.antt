@@ -6,7 +6,8 @@ use Rattle.paper.specs.declared.Geometry.{Geometry}
 use Rattle.paper.specs.Chip.{Plan}
 use Rattle.paper.specs.Refusals.{Answer}
 use Rattle.chip.specs.Run.{Whole, WholeShown}
-use Rattle.dock.specs.Codes.{codeOf, Coded, CodedShown}
+use Rattle.codes.specs.Codes.{codeOf}
+use Rattle.dock.specs.Promises.{Coded, CodedShown}
 
 module _ {g : Geometry} {p : Plan Answer} {i o : List ℕ} {x : Answer} {r : ℕ} where
   pub coded : Whole g p i o x → r ≡ codeOf x → Coded g p i o r

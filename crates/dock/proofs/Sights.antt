@@ -27,7 +27,7 @@ use Rattle.item.specs.Places.{Inside, Room}
 use Rattle.item.specs.Reading.{headAt}
 use Rattle.item.proofs.Live.{live-yes, live-no}
 use Rattle.item.proofs.Looking.{item-in}
-use Rattle.dock.specs.Codes.{code, rowCode}
+use Rattle.codes.specs.Codes.{code, rowCode}
 use Rattle.dock.specs.Sights.{outside, onPage, kind, seen, sight}
 
 -- ---- a page of any shape, whose check answered k

@@ -14,7 +14,7 @@ use Rattle.paper.specs.Slip.{Look, stop, bad, item, look}
 use Rattle.paper.specs.Scan.{Head, live, present}
 use Rattle.paper.specs.Pages.{rank, state}
 use Rattle.paper.specs.Refusals.{check, row}
-use Rattle.dock.specs.Codes.{code, rowCode}
+use Rattle.codes.specs.Codes.{code, rowCode}
 
 -- row 12, for a page or an address that is not there
 abbrev pub outside : ℕ

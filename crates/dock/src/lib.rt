@@ -5,106 +5,22 @@ ghost use Prim.Native.Nat.{_-_, _<_, _≤_};
 ghost use lib.ListN.{length};
 ghost use Rattle.paper.specs.Chip.{part};
 ghost use Rattle.paper.specs.Slip.{look};
-ghost use Rattle.paper.specs.Refusals.{check, row, pushedAs, shownAs, fitAs, spaceAs, erasedAs};
+ghost use Rattle.paper.specs.Refusals.{check};
 ghost use Rattle.paper.specs.Calls.{pushing, peeking, popping, fitting, measuring, erasing};
 ghost use Rattle.chip.specs.Within.{Within};
 ghost use Rattle.item.specs.Places.{Inside, Room};
 ghost use Rattle.item.specs.Reading.{headAt};
-ghost use Rattle.dock.specs.Codes.{code, rowCode, codeOf, codeOfCheck, shapeOf, isOn, Answers, AnswersWithin, Shows, ShowsWithin};
+ghost use Rattle.codes.specs.Codes.{codeOfCheck};
+ghost use Rattle.dock.specs.Promises.{shapeOf, isOn, Answers, AnswersWithin, Shows, ShowsWithin};
 ghost use Rattle.dock.specs.Sights.{stateCode, kind, seen, sight, itemCode};
 use chip::Address;
 use chip::Page;
 use item::ItemHeader;
 use item::MaybeHeader;
 use paper::Checked;
-use paper::Erased;
-use paper::Fit;
 use paper::Geometry;
-use paper::Pushed;
 use paper::Refusal;
 use paper::Shape;
-use paper::Shown;
-use paper::Space;
-
-// ---- answers as numbers; programs print them too
-
-// Lengths and sizes are far below 2^32; the remainder keeps the sum within 64 bits for any number.
-fn coded(row: u64, value: usize) -> u64
-    requires { ⌜ row < 4294967296 ⌝ }
-    ensures { λ r. ⌜ r ≡ code row value ⌝ }
-{
-    ((value % 4294967296) as u64) * 4294967296 + row
-}
-
-// The rows of document 01.
-pub fn refusal_code(refusal: Refusal) -> u64
-    ensures { λ r. ⌜ r ≡ rowCode (row refusal) ⌝ }
-{
-    match refusal {
-        Refusal::ItemTooBig => 2,
-        Refusal::FullStorage => 3,
-        Refusal::BufferTooSmall(n) => coded(4, n),
-        Refusal::Corrupted => 5,
-        Refusal::Cut => 7,
-        Refusal::BadGeometry => 9,
-        Refusal::StartRangeNotAtPageBoundary => 10,
-        Refusal::EndRangeNotAtPageBoundary => 11,
-        Refusal::RangeTooSmall => 12,
-        Refusal::PagesTooSmall => 13,
-        Refusal::WordSizeTooLarge => 14,
-        Refusal::BadWord => 15,
-        Refusal::TooLarge => 16,
-        Refusal::OutsideImage => 17,
-    }
-}
-
-pub fn pushed_code(answer: Pushed) -> u64
-    ensures { λ r. ⌜ r ≡ codeOf (pushedAs answer) ⌝ }
-{
-    match answer {
-        Pushed::Done => 0,
-        Pushed::Refused(refusal) => refusal_code(refusal),
-    }
-}
-
-pub fn shown_code(answer: Shown) -> u64
-    ensures { λ r. ⌜ r ≡ codeOf (shownAs answer) ⌝ }
-{
-    match answer {
-        Shown::Slip(n) => coded(0, n),
-        Shown::Empty => 1,
-        Shown::Refused(refusal) => refusal_code(refusal),
-    }
-}
-
-pub fn fit_code(answer: Fit) -> u64
-    ensures { λ r. ⌜ r ≡ codeOf (fitAs answer) ⌝ }
-{
-    match answer {
-        Fit::Longest(n) => coded(0, n),
-        // No page is that large, so it is no length.
-        Fit::Nothing => coded(0, 0xffff_ffff),
-        Fit::Refused(refusal) => refusal_code(refusal),
-    }
-}
-
-pub fn space_code(answer: Space) -> u64
-    ensures { λ r. ⌜ r ≡ codeOf (spaceAs answer) ⌝ }
-{
-    match answer {
-        Space::Left(n) => coded(0, n),
-        Space::Refused(refusal) => refusal_code(refusal),
-    }
-}
-
-pub fn erased_code(answer: Erased) -> u64
-    ensures { λ r. ⌜ r ≡ codeOf (erasedAs answer) ⌝ }
-{
-    match answer {
-        Erased::Done => 0,
-        Erased::Refused(refusal) => refusal_code(refusal),
-    }
-}
 
 // ---- the check
 
@@ -121,7 +37,7 @@ pub extern "C" fn slipq_check(image_len: usize, start: u32, end: u32, page: u32,
     let checked = queue::check_geometry(image_len, s);
     match checked {
         Checked::Accepted(_) => 0,
-        Checked::Refused(refusal) => refusal_code(refusal),
+        Checked::Refused(refusal) => codes::refusal_code(refusal),
     }
 }
 
@@ -146,7 +62,7 @@ pub extern "C" fn slipq_push(
         page,
         word,
     };
-    pushed_code(queue::push(image, s, slip, overwrite != 0))
+    codes::pushed_code(queue::push(image, s, slip, overwrite != 0))
 }
 
 #[no_mangle]
@@ -168,7 +84,7 @@ pub extern "C" fn slipq_push_limited(
         page,
         word,
     };
-    pushed_code(queue::push_limited(image, s, slip, overwrite != 0, limit))
+    codes::pushed_code(queue::push_limited(image, s, slip, overwrite != 0, limit))
 }
 
 // ---- peek
@@ -190,7 +106,7 @@ pub extern "C" fn slipq_peek(
         page,
         word,
     };
-    shown_code(queue::peek(image, buffer, s))
+    codes::shown_code(queue::peek(image, buffer, s))
 }
 
 #[no_mangle]
@@ -211,7 +127,7 @@ pub extern "C" fn slipq_peek_limited(
         page,
         word,
     };
-    shown_code(queue::peek_limited(image, buffer, s, limit))
+    codes::shown_code(queue::peek_limited(image, buffer, s, limit))
 }
 
 // ---- pop
@@ -233,7 +149,7 @@ pub extern "C" fn slipq_pop(
         page,
         word,
     };
-    shown_code(queue::pop(image, buffer, s))
+    codes::shown_code(queue::pop(image, buffer, s))
 }
 
 #[no_mangle]
@@ -254,7 +170,7 @@ pub extern "C" fn slipq_pop_limited(
         page,
         word,
     };
-    shown_code(queue::pop_limited(image, buffer, s, limit))
+    codes::shown_code(queue::pop_limited(image, buffer, s, limit))
 }
 
 // ---- find_max_fit
@@ -275,7 +191,7 @@ pub extern "C" fn slipq_find_max_fit(
         page,
         word,
     };
-    fit_code(queue::find_max_fit(image, s))
+    codes::fit_code(queue::find_max_fit(image, s))
 }
 
 #[no_mangle]
@@ -295,7 +211,7 @@ pub extern "C" fn slipq_find_max_fit_limited(
         page,
         word,
     };
-    fit_code(queue::find_max_fit_limited(image, s, limit))
+    codes::fit_code(queue::find_max_fit_limited(image, s, limit))
 }
 
 // ---- space_left
@@ -316,7 +232,7 @@ pub extern "C" fn slipq_space_left(
         page,
         word,
     };
-    space_code(queue::space_left(image, s))
+    codes::space_code(queue::space_left(image, s))
 }
 
 #[no_mangle]
@@ -336,7 +252,7 @@ pub extern "C" fn slipq_space_left_limited(
         page,
         word,
     };
-    space_code(queue::space_left_limited(image, s, limit))
+    codes::space_code(queue::space_left_limited(image, s, limit))
 }
 
 // ---- erase_all
@@ -357,7 +273,7 @@ pub extern "C" fn slipq_erase_all(
         page,
         word,
     };
-    erased_code(queue::erase_all(image, s))
+    codes::erased_code(queue::erase_all(image, s))
 }
 
 #[no_mangle]
@@ -377,7 +293,7 @@ pub extern "C" fn slipq_erase_all_limited(
         page,
         word,
     };
-    erased_code(queue::erase_all_limited(image, s, limit))
+    codes::erased_code(queue::erase_all_limited(image, s, limit))
 }
 
 // ---- looks at the image
@@ -402,13 +318,13 @@ pub extern "C" fn slipq_page_state(
     };
     let checked = chip::check_geometry(image.len(), s);
     match checked {
-        Checked::Refused(refusal) => refusal_code(refusal),
+        Checked::Refused(refusal) => codes::refusal_code(refusal),
         Checked::Accepted(g) => {
             if p >= g.pages {
-                return refusal_code(Refusal::RangeTooSmall);
+                return codes::refusal_code(Refusal::RangeTooSmall);
             }
             let state = page::get_page_state(image, g, Page(p));
-            coded(0, page::rank(state) as usize)
+            codes::coded(0, page::rank(state) as usize)
         }
     }
 }
@@ -433,10 +349,10 @@ pub extern "C" fn slipq_item(
     };
     let checked = chip::check_geometry(image.len(), s);
     match checked {
-        Checked::Refused(refusal) => refusal_code(refusal),
+        Checked::Refused(refusal) => codes::refusal_code(refusal),
         Checked::Accepted(g) => {
             if p >= g.pages {
-                return refusal_code(Refusal::RangeTooSmall);
+                return codes::refusal_code(Refusal::RangeTooSmall);
             }
             item_on_page(image, g, Page(p), Address(address))
         }
@@ -451,12 +367,12 @@ fn item_on_page(image: &[u8], g: Geometry, p: Page, at: Address) -> u64
     let first = chip::page_data_start_address(g, p);
     let end = chip::page_data_end_address(g, p);
     if at.0 < first.0 {
-        return refusal_code(Refusal::RangeTooSmall);
+        return codes::refusal_code(Refusal::RangeTooSmall);
     }
     if end.0 < at.0 {
-        return refusal_code(Refusal::RangeTooSmall);
+        return codes::refusal_code(Refusal::RangeTooSmall);
     }
-    coded(0, item_at(image, g, at, end))
+    codes::coded(0, item_at(image, g, at, end))
 }
 
 // The kind takes the value's three low bits, and the length those above.

@@ -1,145 +1,78 @@
-// The calls. Each reads its run, if it has one, is played on the image, and prints its line. It answers whether its record was whole.
-ghost use Prim.Native.Nat.{_≤_};
-ghost use lib.ListN.{length};
-use crate::input;
-use crate::input::Asked;
+// The calls. Each is made on the image, whole or with its limit.
 use crate::print;
-use paper::Shape;
+use crate::record::Record;
 
-// More than a page's data, so that a buffer can be larger than any slip.
-const BUFFER: usize = 8192;
+// No answer has this code.
+const UNKNOWN: u64 = 0xffff_ffff;
 
-pub fn play(image: &mut [u8], s: Shape, asked: Asked) -> bool {
-    if !asked.is_whole {
-        return false;
+// Answers whether there is such a call.
+pub fn play(image: &mut [u8], lent: &mut [u8], asked: Record) -> bool {
+    let code = answer(image, lent, asked);
+    if code == UNKNOWN {
+        return print::malformed(b"a letter that stands for nothing");
     }
-    let letter = asked.call;
+    print::line(asked.letter, code, image, lent);
+    true
+}
+
+fn answer(image: &mut [u8], lent: &mut [u8], asked: Record) -> u64 {
+    let letter = asked.letter;
     match letter {
-        b'p' => read_slip(image, s, asked),
-        b'k' => read_buffer(image, s, asked),
-        b'o' => read_buffer(image, s, asked),
-        b'f' => find_max_fit(image, s, asked),
-        b's' => space_left(image, s, asked),
-        b'e' => erase_all(image, s, asked),
-        _ => false,
+        b'p' => push(image, lent, asked),
+        b'k' => peek(image, lent, asked),
+        b'o' => pop(image, lent, asked),
+        b'f' => find_max_fit(image, asked),
+        b's' => space_left(image, asked),
+        b'e' => erase_all(image, asked),
+        _ => UNKNOWN,
     }
 }
 
-// ---- push
-
-fn read_slip(image: &mut [u8], s: Shape, asked: Asked) -> bool {
-    let mut space = io::large_buffer();
-    let run = input::read_run(&mut space);
-    if !run.is_whole {
-        return false;
+fn push(image: &mut [u8], slip: &[u8], asked: Record) -> u64 {
+    let s = asked.shape;
+    let over = asked.flags % 2 == 1;
+    if asked.flags / 2 % 2 == 0 {
+        return codes::pushed_code(queue::push(image, s, slip, over));
     }
-    push(image, s, asked, &space, run.length);
-    true
+    codes::pushed_code(queue::push_limited(image, s, slip, over, asked.at as usize))
 }
 
-// The slip is the first n bytes of space.
-fn push(image: &mut [u8], s: Shape, asked: Asked, space: &[u8], n: usize)
-    requires { ⌜ n ≤ length (now space) ⌝ }
-{
-    let code = pushed(image, s, asked, &space[0..n]);
-    print::done(asked.call, code);
-    print::last(image);
-}
-
-fn pushed(image: &mut [u8], s: Shape, asked: Asked, slip: &[u8]) -> u64 {
-    if asked.is_limited {
-        return dock::pushed_code(queue::push_limited(
-            image,
-            s,
-            slip,
-            asked.is_overwriting,
-            asked.limit,
-        ));
+fn peek(image: &mut [u8], buffer: &mut [u8], asked: Record) -> u64 {
+    let s = asked.shape;
+    if asked.flags / 2 % 2 == 0 {
+        return codes::shown_code(queue::peek(image, buffer, s));
     }
-    dock::pushed_code(queue::push(image, s, slip, asked.is_overwriting))
+    codes::shown_code(queue::peek_limited(image, buffer, s, asked.at as usize))
 }
 
-// ---- peek and pop
-
-fn read_buffer(image: &mut [u8], s: Shape, asked: Asked) -> bool {
-    let mut space = [0u8; BUFFER];
-    let run = input::read_run(&mut space);
-    if !run.is_whole {
-        return false;
+fn pop(image: &mut [u8], buffer: &mut [u8], asked: Record) -> u64 {
+    let s = asked.shape;
+    if asked.flags / 2 % 2 == 0 {
+        return codes::shown_code(queue::pop(image, buffer, s));
     }
-    show(image, s, asked, &mut space, run.length);
-    true
+    codes::shown_code(queue::pop_limited(image, buffer, s, asked.at as usize))
 }
 
-// The buffer is the first n bytes of space.
-fn show(image: &mut [u8], s: Shape, asked: Asked, space: &mut [u8], n: usize)
-    requires { ⌜ n ≤ length (now space) ⌝ }
-{
-    let buffer = &mut space[0..n];
-    let code = shown(image, buffer, s, asked);
-    print::number(asked.call, code);
-    print::field(image);
-    print::last(buffer);
-}
-
-fn shown(image: &mut [u8], buffer: &mut [u8], s: Shape, asked: Asked) -> u64 {
-    if asked.call == b'k' {
-        return peeked(image, buffer, s, asked);
+fn find_max_fit(image: &mut [u8], asked: Record) -> u64 {
+    let s = asked.shape;
+    if asked.flags / 2 % 2 == 0 {
+        return codes::fit_code(queue::find_max_fit(image, s));
     }
-    popped(image, buffer, s, asked)
+    codes::fit_code(queue::find_max_fit_limited(image, s, asked.at as usize))
 }
 
-fn peeked(image: &mut [u8], buffer: &mut [u8], s: Shape, asked: Asked) -> u64 {
-    if asked.is_limited {
-        return dock::shown_code(queue::peek_limited(image, buffer, s, asked.limit));
+fn space_left(image: &mut [u8], asked: Record) -> u64 {
+    let s = asked.shape;
+    if asked.flags / 2 % 2 == 0 {
+        return codes::space_code(queue::space_left(image, s));
     }
-    dock::shown_code(queue::peek(image, buffer, s))
+    codes::space_code(queue::space_left_limited(image, s, asked.at as usize))
 }
 
-fn popped(image: &mut [u8], buffer: &mut [u8], s: Shape, asked: Asked) -> u64 {
-    if asked.is_limited {
-        return dock::shown_code(queue::pop_limited(image, buffer, s, asked.limit));
+fn erase_all(image: &mut [u8], asked: Record) -> u64 {
+    let s = asked.shape;
+    if asked.flags / 2 % 2 == 0 {
+        return codes::erased_code(queue::erase_all(image, s));
     }
-    dock::shown_code(queue::pop(image, buffer, s))
-}
-
-// ---- find_max_fit, space_left, erase_all
-
-fn find_max_fit(image: &mut [u8], s: Shape, asked: Asked) -> bool {
-    print::number(asked.call, fit(image, s, asked));
-    print::last(image);
-    true
-}
-
-fn fit(image: &mut [u8], s: Shape, asked: Asked) -> u64 {
-    if asked.is_limited {
-        return dock::fit_code(queue::find_max_fit_limited(image, s, asked.limit));
-    }
-    dock::fit_code(queue::find_max_fit(image, s))
-}
-
-fn space_left(image: &mut [u8], s: Shape, asked: Asked) -> bool {
-    print::number(asked.call, space(image, s, asked));
-    print::last(image);
-    true
-}
-
-fn space(image: &mut [u8], s: Shape, asked: Asked) -> u64 {
-    if asked.is_limited {
-        return dock::space_code(queue::space_left_limited(image, s, asked.limit));
-    }
-    dock::space_code(queue::space_left(image, s))
-}
-
-fn erase_all(image: &mut [u8], s: Shape, asked: Asked) -> bool {
-    print::done(asked.call, erased(image, s, asked));
-    print::last(image);
-    true
-}
-
-fn erased(image: &mut [u8], s: Shape, asked: Asked) -> u64 {
-    if asked.is_limited {
-        return dock::erased_code(queue::erase_all_limited(image, s, asked.limit));
-    }
-    dock::erased_code(queue::erase_all(image, s))
+    codes::erased_code(queue::erase_all_limited(image, s, asked.at as usize))
 }

@@ -1,193 +1,129 @@
 // Plays calls on the queue and prints what each comes to; the gate compares that with the file stdout. stdin holds the calls and stdout
 // what the unchanged Rust crate answered to them: oracle/replay makes both.
 //
-// stdin is a row of records. A number is four bytes, low byte first. A run is a number of bytes, then 0 and the one byte that they all
-// are, or 1 and the bytes themselves.
+// stdin is a row of records, each of 32 bytes: a letter, flags, a byte, a byte that is not used, and seven numbers of four bytes each, the
+// low byte first.
 //
-//   L run                    lays an image
-//   P address run            changes bytes of the image
-//   S start end page word    the shape of the calls that follow
-//   C call flags ..          a call by its letter: p push, k peek, o pop, f find_max_fit, s space_left, e erase_all. Flags: 1 overwrite,
-//                            2 limited, 4 on a copy, so that the image stays. Then the limit, if limited. Then a run: for push the slip,
-//                            for peek and pop the buffer.
+//   letter   L lays bytes in the image; the others are calls: p push, k peek, o pop, f find_max_fit, s space_left, e erase_all
+//   flags    1 overwrite, 2 limited, 4 on a copy, so that the image stays, 8 filled
+//   numbers  count, at, size, start, end, page, word
 //
-// A call prints a line: its letter, the numbers of its answer, the image, and for peek and pop the buffer. Up to 64 bytes are printed
-// whole, more by their data checksum. An input that is not of this form ends the run with a line that says why.
+// A record brings `count` bytes: those that L lays from the address `at` on, a push's slip, a peek's or a pop's buffer. Where it is filled
+// they all are its third byte; otherwise they follow the record. A call is made on the image's first `size` bytes; its limit is `at`.
+//
+// A call prints a line: its letter, its answer's code, the image, and the slip or buffer. Up to 64 bytes are printed whole, more by their
+// data checksum. An input that is not of this form ends the run with a line that says why.
 mod call;
-mod input;
 mod print;
+mod record;
 
-ghost use mathlib.Core.Path.{_≡_};
 ghost use Prim.Native.Nat.{_≤_};
 ghost use lib.ListN.{length};
-use paper::Shape;
+use libc::STDIN_FILENO;
+use record::Record;
 
 // The largest range, 64 pages of 4,096 bytes, and eight such pages more: an image may begin before its range and end behind it.
-const ROOM: usize = 294912;
-
-// `size`: how many bytes of the room are the image.
-struct State {
-    shape: Shape,
-    size: usize,
-    is_over: bool,
-}
+const IMAGE: usize = 294912;
+// The image, and behind it the copy.
+const ROOM: usize = 589824;
+// One more than the longest slip.
+const LENT: usize = 65536;
 
 fn main() {
-    let mut image = [0u8; ROOM];
-    let mut copy = [0u8; ROOM];
-    replay(&mut image, &mut copy);
+    let mut room = [0u8; ROOM];
+    let mut lent = [0u8; LENT];
+    replay(&mut room, &mut lent);
 }
 
 // A proved loop has to end, and nothing says that the input does. So the loop counts its turns down, from a number that no run uses up.
-fn replay(image: &mut [u8], copy: &mut [u8])
-    requires { ⌜ length (now image) ≡ length (now copy) ⌝ }
+fn replay(room: &mut [u8], lent: &mut [u8])
+    requires { ⌜ (589824 ≤ length (now room)) × (65536 ≤ length (now lent)) ⌝ }
 {
-    let shape = Shape {
-        start: 0,
-        end: 0,
-        page: 0,
-        word: 0,
-    };
-    let mut state = State {
-        shape,
-        size: 0,
-        is_over: false,
-    };
     let mut turns = u64::MAX;
-    while turns > 0 && !state.is_over {
-        state = next_record(state, image, copy);
+    while turns > 0 && next_record(room, lent) {
         turns -= 1;
     }
 }
 
-fn next_record(state: State, image: &mut [u8], copy: &mut [u8]) -> State
-    requires { ⌜ state .size ≤ length (now image) ⌝ }
-    requires { ⌜ length (now image) ≡ length (now copy) ⌝ }
-    ensures { λ r. ⌜ r .size ≤ length (now (image .entry)) ⌝ }
+// Answers whether to go on.
+fn next_record(room: &mut [u8], lent: &mut [u8]) -> bool
+    requires { ⌜ (589824 ≤ length (now room)) × (65536 ≤ length (now lent)) ⌝ }
 {
-    let name = input::read_byte();
-    if !name.is_whole {
-        return over(state);
+    let mut field = [0u8; 32];
+    let read = io::read_full(STDIN_FILENO, &mut field);
+    if read < 32 {
+        return print::ended(read);
     }
-    let letter = name.value;
-    match letter {
-        b'L' => lay(state, image),
-        b'P' => patch(state, image),
-        b'S' => reshape(state),
-        b'C' => play(state, image, copy),
-        _ => malformed(state, b"no such record"),
+    let asked = record::decoded(&field);
+    if asked.letter == b'L' {
+        return lay(room, asked);
     }
+    play(room, lent, asked)
 }
 
-fn over(state: State) -> State
-    ensures { λ r. ⌜ r .size ≤ state .size ⌝ }
+fn lay(room: &mut [u8], asked: Record) -> bool
+    requires { ⌜ 589824 ≤ length (now room) ⌝ }
 {
-    let shape = state.shape;
-    State {
-        shape,
-        size: state.size,
-        is_over: true,
+    let from = asked.at as usize;
+    let to = from + (asked.count as usize);
+    if to > IMAGE {
+        return print::malformed(b"bytes that the image has no room for");
     }
+    bring(&mut room[from..to], asked)
 }
 
-fn malformed(state: State, what: &[u8]) -> State
-    ensures { λ r. ⌜ r .size ≤ state .size ⌝ }
+fn play(room: &mut [u8], lent: &mut [u8], asked: Record) -> bool
+    requires { ⌜ (589824 ≤ length (now room)) × (65536 ≤ length (now lent)) ⌝ }
 {
-    print::text(b"malformed: ");
-    print::text(what);
-    print::end_line();
-    over(state)
+    let size = asked.size as usize;
+    let count = asked.count as usize;
+    if size > IMAGE {
+        return print::malformed(b"an image that is too large");
+    }
+    if count > LENT {
+        return print::malformed(b"a slip or a buffer that is too large");
+    }
+    if !bring(&mut lent[0..count], asked) {
+        return false;
+    }
+    let from = copied(room, size, asked);
+    let to = from + size;
+    call::play(&mut room[from..to], &mut lent[0..count], asked)
 }
 
-fn lay(state: State, image: &mut [u8]) -> State
-    requires { ⌜ state .size ≤ length (now image) ⌝ }
-    ensures { λ r. ⌜ r .size ≤ length (now (image .entry)) ⌝ }
+// Where the image begins that the call is made on.
+fn copied(room: &mut [u8], size: usize, asked: Record) -> usize
+    requires { ⌜ (589824 ≤ length (now room)) × (size ≤ 294912) ⌝ }
+    ensures { λ r. ⌜ r ≤ 294912 ⌝ }
 {
-    let run = input::read_run(image);
-    if !run.is_whole {
-        return malformed(state, b"an image that is cut short or too large");
+    if asked.flags / 4 % 2 == 0 {
+        return 0;
     }
-    let shape = state.shape;
-    State {
-        shape,
-        size: run.length,
-        is_over: false,
-    }
-}
-
-fn patch(state: State, image: &mut [u8]) -> State
-    requires { ⌜ state .size ≤ length (now image) ⌝ }
-    ensures { λ r. ⌜ r .size ≤ length (now (image .entry)) ⌝ }
-{
-    let address = input::read_number();
-    let from = address.value;
-    let size = state.size;
-    if from > size {
-        return malformed(state, b"a change outside the image");
-    }
-    let run = input::read_run(&mut image[from..size]);
-    if !run.is_whole {
-        return malformed(
-            state,
-            b"a change that is cut short or passes the image's end",
-        );
-    }
-    state
-}
-
-fn reshape(state: State) -> State
-    ensures { λ r. ⌜ r .size ≤ state .size ⌝ }
-{
-    let start = input::read_number();
-    let end = input::read_number();
-    let page = input::read_number();
-    let word = input::read_number();
-    if !word.is_whole {
-        return malformed(state, b"a shape that is cut short");
-    }
-    let shape = Shape {
-        start: start.value as u32,
-        end: end.value as u32,
-        page: page.value as u32,
-        word: word.value as u32,
-    };
-    State {
-        shape,
-        size: state.size,
-        is_over: false,
-    }
-}
-
-fn play(state: State, image: &mut [u8], copy: &mut [u8]) -> State
-    requires { ⌜ state .size ≤ length (now image) ⌝ }
-    requires { ⌜ length (now image) ≡ length (now copy) ⌝ }
-    ensures { λ r. ⌜ r .size ≤ length (now (image .entry)) ⌝ }
-{
-    let asked = input::read_call();
-    let size = state.size;
-    let shape = state.shape;
-    if !asked.is_on_copy {
-        return played(state, call::play(&mut image[0..size], shape, asked));
-    }
-    copy_bytes(&image[0..size], &mut copy[0..size]);
-    played(state, call::play(&mut copy[0..size], shape, asked))
-}
-
-fn played(state: State, is_whole: bool) -> State
-    ensures { λ r. ⌜ r .size ≤ state .size ⌝ }
-{
-    if is_whole {
-        return state;
-    }
-    malformed(state, b"a call that is unknown or cut short")
-}
-
-fn copy_bytes(from: &[u8], to: &mut [u8])
-    requires { ⌜ length (now from) ≤ length (now to) ⌝ }
-{
     let mut i: usize = 0;
-    while i < from.len() {
-        to[i] = from[i];
+    while i < size {
+        room[IMAGE + i] = room[i];
+        i += 1;
+    }
+    IMAGE
+}
+
+// The bytes of a record. Answers whether they are all there.
+fn bring(bytes: &mut [u8], asked: Record) -> bool {
+    if asked.flags / 8 % 2 == 1 {
+        fill(bytes, asked.byte);
+        return true;
+    }
+    let read = io::read_full(STDIN_FILENO, bytes);
+    if read < bytes.len() {
+        return print::malformed(b"bytes that are cut short");
+    }
+    true
+}
+
+fn fill(bytes: &mut [u8], b: u8) {
+    let mut i: usize = 0;
+    while i < bytes.len() {
+        bytes[i] = b;
         i += 1;
     }
 }

@@ -2,7 +2,7 @@
 use borrow.Author.Needs.{needs}
 use native.Mathlib.Omega.{arith}
 use mathlib.Core.Path.{ap, _∙_}
-use Rattle.dock.specs.Codes.{code}
+use Rattle.codes.specs.Codes.{code}
 use Prim.Native.Nat.{ℕ, _-_}
 use Rattle.paper.specs.Chip.{part}
 use Rattle.paper.specs.Slip.{look}

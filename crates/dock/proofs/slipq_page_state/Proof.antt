@@ -1,7 +1,7 @@
 -- `dock::slipq_page_state` meets its contract: by the cases of the check, and whether there is such a page. Assumes nothing.
 use borrow.Author.Needs.{needs}
 use mathlib.Core.Path.{ap, _∙_}
-use Rattle.dock.specs.Codes.{code}
+use Rattle.codes.specs.Codes.{code}
 use Rattle.paper.specs.declared.PageState.{PageState}
 use Rattle.paper.specs.Pages.{rank, state}
 use Rattle.dock.specs.Sights.{stateCode}

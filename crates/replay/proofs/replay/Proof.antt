@@ -1,6 +1,4 @@
--- `replay::replay` is safe and ends: the image lies within its room, and no room changes its length. The measure is the number of turns that
--- are left. Assumes nothing.
-use Prim.Native.Nat.{_≤_}
+-- `replay::replay` is safe and ends: no room changes its length, and the measure is the number of turns that are left. Assumes nothing.
 use mathlib.Core.Path.{_≡_}
 use native.Mathlib.Omega.{arith}
 use lib.ListN.{length}
@@ -8,10 +6,10 @@ use Rattle.replay.proofs.replay.Statement.{statement}
 use Rattle.replay.proofs.replay.Tie as tie
 
 abbrev Inv-loop : tie.InvT-loop
-Inv-loop image₀ copy₀ state₀ turns₀ image copy state turns = (state .size ≤ length image) × (length image ≡ length image₀) × (length copy ≡ length copy₀)
+Inv-loop room₀ lent₀ turns₀ room lent turns = (length room ≡ length room₀) × (length lent ≡ length lent₀)
 
 abbrev μ-loop : tie.MeasureT-loop
-μ-loop image₀ copy₀ state₀ turns₀ image copy state turns = turns
+μ-loop room₀ lent₀ turns₀ room lent turns = turns
 
 loop-holds : tie.Need-loop-holds Inv-loop μ-loop
 loop-holds c = omega arith

@@ -1,12 +1,11 @@
--- `dock::refusal_code` meets its contract: by the cases of the refusal. Assumes nothing.
+-- `codes::refusal_code` meets its contract: by the cases of the refusal. Assumes nothing.
 use borrow.Author.Needs.{needs}
 use mathlib.Core.Path.{sym, ap, _∙_}
 use Rattle.paper.specs.Refusals.{row}
 use Rattle.paper.specs.declared.Refusal.{Refusal}
-use Rattle.dock.specs.Codes.{rowCode}
-use Rattle.dock.proofs.Calls.{coded}
-use Rattle.dock.proofs.refusal_code.Statement.{statement}
-use Rattle.dock.proofs.refusal_code.Tie as tie
+use Rattle.codes.specs.Codes.{rowCode}
+use Rattle.codes.proofs.refusal_code.Statement.{statement}
+use Rattle.codes.proofs.refusal_code.Tie as tie
 
 enum-told : tie.Need-enum-told
 enum-told c = search needs

@@ -1,9 +1,9 @@
--- `dock::coded` meets its contract: the remainder is below 2^32, so the sum does not wrap. Assumes nothing.
+-- `codes::coded` meets its contract: the remainder is below 2^32, so the sum does not wrap. Assumes nothing.
 use borrow.Author.Needs.{needs}
 use mathlib.Core.Path.{refl}
-use Rattle.dock.specs.Codes.{code}
-use Rattle.dock.proofs.coded.Statement.{statement}
-use Rattle.dock.proofs.coded.Tie as tie
+use Rattle.codes.specs.Codes.{code}
+use Rattle.codes.proofs.coded.Statement.{statement}
+use Rattle.codes.proofs.coded.Tie as tie
 
 mul-result : tie.Need-mul-result
 mul-result c = search needs

@@ -1,14 +1,16 @@
--- `dock::space_code` meets its contract: by the cases of the answer. Assumes nothing.
+-- `codes::shown_code` meets its contract: by the cases of the answer. Assumes nothing.
 use borrow.Author.Needs.{needs}
-use Rattle.dock.proofs.Calls.{coded}
-use Rattle.dock.proofs.space_code.Statement.{statement}
-use Rattle.dock.proofs.space_code.Tie as tie
+use Rattle.codes.proofs.shown_code.Statement.{statement}
+use Rattle.codes.proofs.shown_code.Tie as tie
 
 enum-known-answer : tie.Need-enum-known-answer
 enum-known-answer c = search needs
 
 coded-requires : tie.Need-coded-requires
 coded-requires c κs = search needs
+
+enum-told : tie.Need-enum-told
+enum-told c = search needs
 
 enum-known-answer-2 : tie.Need-enum-known-answer-2
 enum-known-answer-2 c = search needs
@@ -20,15 +22,20 @@ returns : tie.Need-returns
 returns c = rw (c .before .before .answer .given .1) (c .coded .ensures)
 
 returns-2 : tie.Need-returns-2
-returns-2 c = rw (c .before .before .answer2 .given .1) (c .refusal-code .ensures)
+returns-2 c = search needs
 
-pub space-code-spec : {M : Type 1} → statement M
-space-code-spec =
+returns-3 : tie.Need-returns-3
+returns-3 c = rw (c .before .before .answer2 .given .1) (c .refusal-code .ensures)
+
+pub shown-code-spec : {M : Type 1} → statement M
+shown-code-spec =
     tie.close
     (tie.spec
     enum-known-answer
     coded-requires
+    enum-told
     enum-known-answer-2
     refusal-code-requires
     returns
-    returns-2)
+    returns-2
+    returns-3)

@@ -1,8 +1,7 @@
--- `dock::shown_code` meets its contract: by the cases of the answer. Assumes nothing.
+-- `codes::fit_code` meets its contract: by the cases of the answer. Assumes nothing.
 use borrow.Author.Needs.{needs}
-use Rattle.dock.proofs.Calls.{coded}
-use Rattle.dock.proofs.shown_code.Statement.{statement}
-use Rattle.dock.proofs.shown_code.Tie as tie
+use Rattle.codes.proofs.fit_code.Statement.{statement}
+use Rattle.codes.proofs.fit_code.Tie as tie
 
 enum-known-answer : tie.Need-enum-known-answer
 enum-known-answer c = search needs
@@ -12,6 +11,9 @@ coded-requires c κs = search needs
 
 enum-told : tie.Need-enum-told
 enum-told c = search needs
+
+coded-requires-2 : tie.Need-coded-requires-2
+coded-requires-2 c κs = search needs
 
 enum-known-answer-2 : tie.Need-enum-known-answer-2
 enum-known-answer-2 c = search needs
@@ -23,18 +25,19 @@ returns : tie.Need-returns
 returns c = rw (c .before .before .answer .given .1) (c .coded .ensures)
 
 returns-2 : tie.Need-returns-2
-returns-2 c = search needs
+returns-2 c = rw (c .before .enum-told .given .1) (c .coded2 .ensures)
 
 returns-3 : tie.Need-returns-3
 returns-3 c = rw (c .before .before .answer2 .given .1) (c .refusal-code .ensures)
 
-pub shown-code-spec : {M : Type 1} → statement M
-shown-code-spec =
+pub fit-code-spec : {M : Type 1} → statement M
+fit-code-spec =
     tie.close
     (tie.spec
     enum-known-answer
     coded-requires
     enum-told
+    coded-requires-2
     enum-known-answer-2
     refusal-code-requires
     returns
