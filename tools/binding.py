@@ -110,6 +110,9 @@ class Path:
     def text(self):
         return ' .'.join(('c',) + ('before',) * self.depth + (self.field,) + self.rest)
 
+    def name(self):
+        return '-'.join((self.field,) + self.rest)
+
     def order(self):
         """In the order of the code: what lies furthest back comes first."""
         return -self.depth, self.field, self.rest
@@ -158,8 +161,11 @@ class Binder:
         for found in LET_LINE.finditer(body):
             indent, line, name, behind = found.group(1, 2, 3, 7)
             before = body[:body.index(line)]
-            if name not in names_in(before) and name not in [one.name for one in bound]:
-                bound.append(Bound(name, Path(depth_of(found.group(4)), found.group(5), projections(found.group(6)))))
+            path = Path(depth_of(found.group(4)), found.group(5), projections(found.group(6)))
+            is_again = any(one.name == name and one.path.order() == path.order() for one in bound)
+            is_meant = self.places.rank(path.field, path.depth) in (None, meant_rank(name, path))
+            if is_again or (is_meant and name not in names_in(before) and name not in [one.name for one in bound]):
+                bound += [] if is_again else [Bound(name, path)]
                 body = body.replace(found.group(0), '' if behind == '\n' else indent, 1)
         return body, bound
 
@@ -182,11 +188,18 @@ class Binder:
         return rank > 0 or depth > FREE or (depth > 0 and times > 1)
 
     def _name(self, path, body, bound):
-        name = '-'.join((path.field,) + path.rest) + '′' * self.places.rank(path.field, path.depth)
+        name = path.name() + '′' * self.places.rank(path.field, path.depth)
         taken = names_in(body) | RESERVED | {one.name for one in bound}
         while name in taken:
             name = 'the-' + name
         return name
+
+
+def meant_rank(name, path):
+    """How many fields of that name are nearer than the one that a bound name means. A name of somebody's own choice means
+    the nearest."""
+    bare = name.rstrip('′')
+    return len(name) - len(bare) if bare.endswith(path.name()) else 0
 
 
 def read_path(found):
@@ -224,8 +237,8 @@ def recounted(body, places, complain):
 
     def of_let(found):
         name, row, field, rest = found.groups()
-        rank = len(name) - len(name.rstrip('′'))
-        lets.append(let(name, now(Path(depth_of(row), field, projections(rest)), rank)).strip())
+        path = Path(depth_of(row), field, projections(rest))
+        lets.append(let(name, now(path, meant_rank(name, path))).strip())
         return f'\0{len(lets) - 1}\0'  # so that the next step, which goes by the nearest, leaves it alone
 
     lets = []

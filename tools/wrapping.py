@@ -6,9 +6,10 @@ import re
 import textwrap
 
 SHORTEST = 24  # a first piece shorter than this is no help to the reader
-# what a break is worth before a word of this kind; a deeper parenthesis costs more than any of these
-OPERATORS = {'→': 0, '×': 0, '⊎': 0, '∙': 0, '≡': 8, '≤': 10, '<': 10, '+': 14, '∷': 10, '++': 10}
-DEEPER = 20
+# what a break costs before an operator: the looser it binds, the less; an argument costs more, and a deeper parenthesis most
+OPERATORS = {'→': 0, '×': 5, '⊎': 5, '∙': 4, '≡': 8, '≤': 9, '<': 9, '∷': 10, '++': 10, '+': 11}
+ARGUMENT = 12
+DEEPER = 24
 KEPT_WITH_NEXT = ('let', 'λ', 'rw', '←', 'record', 'at', ':', '-', '*', '=')
 
 
@@ -55,9 +56,9 @@ def cost_before(line, words, index):
     elif word.text.startswith('.'):
         kind = 3 * DEEPER
     elif last.text.endswith(',') or word.text.startswith('('):
-        kind = 6
+        kind = ARGUMENT
     else:
-        kind = 12 if last.text.endswith('.') else 16
+        kind = ARGUMENT + (6 if last.text.endswith('.') else 10)
     return word.depth() * DEEPER + kind
 
 
@@ -66,8 +67,8 @@ def break_of(line, widest, indent):
     words, best = words_of(line), None
     for index in range(1, len(words)):
         start = words[index].start
-        if start - 1 > widest:
-            break
+        if start - 1 > widest or words[index - 1].text == '--':
+            break  # what stands behind a comment's mark stays on its line
         if words[index - 1].text == '=' and not words[index].brackets and len(line) - start + indent <= widest:
             return start
         cost = cost_before(line, words, index)
@@ -79,17 +80,26 @@ def break_of(line, widest, indent):
     return best and best[1]
 
 
-def fields_of(line, brace):
-    """What stands behind a record's brace: a piece for each field, and what comes from the closing brace on."""
-    pieces, start, depth = [], brace + 1, 0
-    for place in range(brace, len(line)):
+def parts_of(line, bracket):
+    """What stands behind a record's or a tuple's bracket: a piece for each part, and what comes from the closing bracket on."""
+    pieces, start, depth = [], bracket + 1, 0
+    for place in range(bracket, len(line)):
         depth += (line[place] in '({') - (line[place] in ')}')
         if depth == 0:
             return pieces + [line[start:place].strip(), line[place:]]
-        if depth == 1 and line[place] == ';':
+        if depth == 1 and line[place] in ';,':
             pieces.append(line[start:place + 1].strip())
             start = place + 1
     return pieces + [line[start:].strip()]
+
+
+def laid_out_around(line, place):
+    """The outermost record or tuple that a break at this place lies in, or None: `rt fmt` gives each of its parts a line."""
+    for bracket in next((word.brackets for word in words_of(line) if word.start == place), ()):
+        parts = parts_of(line, bracket)
+        if is_record(line, bracket) or (line[bracket] == '(' and len(parts) > 1 and parts[0].endswith(',')):
+            return bracket
+    return None
 
 
 def pieces_of(line, widest, indent):
@@ -99,11 +109,11 @@ def pieces_of(line, widest, indent):
     place = break_of(line, widest, len(indent))
     if place is None:
         return [line]
-    first = line[:place].rstrip()
-    parts = [line[place:]]
-    if first.endswith('record {'):
-        parts = [part if part.startswith('}') else '  ' + part for part in fields_of(line, len(first) - 1) if part]
-    return [first] + [piece for part in parts for piece in pieces_of(indent + part, widest, indent)]
+    bracket = laid_out_around(line, place)
+    if bracket is None:
+        return [line[:place].rstrip()] + pieces_of(indent + line[place:], widest, indent)
+    parts = [part if part[0] in ')}' else '  ' + part for part in parts_of(line, bracket) if part]
+    return [line[:bracket + 1]] + [piece for part in parts for piece in pieces_of(indent + part, widest, indent)]
 
 
 def wrapped(line, widest):
