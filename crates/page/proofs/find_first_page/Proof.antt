@@ -82,8 +82,7 @@ loop-again c =
     let fine = sym is-same-ensures ∙ if1-left in
     let other = sym (c .before .before .is-same2 .ensures) ∙ c .before .if2 .left in (
       c .next-page .ensures .1,
-      λ im tb.
-          (rw e (sym (first-on tb args-want (l .left) (l .p .0) (omega arith) (l .inv .0) fine other) ∙ l .inv .1 im tb)),
+      λ im tb. (rw e (sym (first-on tb args-want (l .left) (l .p .0) (omega arith) (l .inv .0) fine other) ∙ l .inv .1 im tb)),
     )
 
 returns-3 : tie.Need-returns-3 Inv-loop μ-loop

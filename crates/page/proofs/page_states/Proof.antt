@@ -49,8 +49,7 @@ loop-again c =
     let l = c .before .before .before .loop in (
       omega arith,
       (simp length-set (l .inv .1)),
-      table-set (a .g) (a .image .now) (l .table) (l .p) _ (omega arith)
-          (c .get-page-state .ensures) (l .inv .2),
+      table-set (a .g) (a .image .now) (l .table) (l .p) _ (omega arith) (c .get-page-state .ensures) (l .inv .2),
     )
 
 returns : tie.Need-returns Inv-loop μ-loop
