@@ -60,8 +60,7 @@ loop-again c =
     let erase-page-kept-0 = c .before .before .before .before .erase-page .kept .0 in (
       erase-page-kept-0 ∙ l .inv .0,
       omega arith,
-      λ o r y. l .inv .2 o r
-          (erases-on (l .p) (omega arith) erase-page-ensures (c .before .if2 .left) y),
+      λ o r y. l .inv .2 o r (erases-on (l .p) (omega arith) erase-page-ensures (c .before .if2 .left) y),
     )
 
 same-length-2 : tie.Need-same-length-2 Inv-loop μ-loop
