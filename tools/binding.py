@@ -153,7 +153,8 @@ class Binder:
         names = '|'.join(re.escape(one.name) for one in bound)
         body = re.sub(rf'(?<=[ (])\(({names})\)', r'\1', body)
         lets = [let(one.name, one.path) for one in sorted(bound, key=lambda one: one.path.order())]
-        return '\n' + '\n'.join(lets) + '\n    ' + body
+        # `rt fmt` leaves a tuple's bracket at the end of the line before it
+        return '\n' + '\n'.join(lets) + (' ' if body.startswith('(\n') else '\n    ') + body
 
     def _taken_off(self, body):
         """The body without the lines that bind a path and can stand at its top, and what those bind."""
