@@ -46,12 +46,14 @@ showed-kept g r i d x t = rw (← uncut r t) (showed-none g (r .budget) i x d)
 
 -- ---- bind
 
-module _ {A B : Type 0} {g : Geometry} {b : Budget} {p : Plan A} {i o d e : List ℕ} {r : Spent} {x : A} (next : A → List ℕ → Plan B) (h : Showed g b p i o d e r x) where
+module _ {A B : Type 0} {g : Geometry} {b : Budget} {p : Plan A} {i o d e : List ℕ} {r : Spent} {x : A} (next : A → List ℕ → Plan B)
+    (h : Showed g b p i o d e r x) where
   pub showed-bind-cut : (y : B) → r .cut ≡ true → Showed g b (bind g i p next) i o d e r y
   unfolding bind
   showed-bind-cut y t = record { acted = acted-cut (h .acted) _ t; says = λ f. absurd (false≢true (sym f ∙ t)) }
 
-  pub showed-bind-then : {m f : List ℕ} {s : Spent} {y : B} → r .cut ≡ false → Showed g (r .budget) (next x o) o m e f s y → Showed g b (bind g i p next) i m d f s y
+  pub showed-bind-then : {m f : List ℕ} {s : Spent} {y : B} → r .cut ≡ false → Showed g (r .budget) (next x o) o m e f s y
+      → Showed g b (bind g i p next) i m d f s y
   unfolding bind
   showed-bind-then {m} {f} {s} {y} t v =
       let u : Showed g (r .budget) (next (p .answer) (imageAfter g (p .events) i)) o m e f s y = rw (← did-image (h .acted .did) t, ← h .says t) v in
@@ -86,7 +88,8 @@ module _ {B : Type 0} {g : Geometry} {b : Budget} {es : List Event} {i o d e : L
   pub showed-and-cut : (y : B) → r .cut ≡ true → Showed g b (andThen g i es next) i o d e r y
   showed-and-cut y t = showed-bind-cut {A = Unit {0}} (λ u. next) (showed-plan tt h) y t
 
-  pub showed-and-then : {m f : List ℕ} {s : Spent} {y : B} → r .cut ≡ false → Showed g (r .budget) (next o) o m e f s y → Showed g b (andThen g i es next) i m d f s y
+  pub showed-and-then : {m f : List ℕ} {s : Spent} {y : B} → r .cut ≡ false → Showed g (r .budget) (next o) o m e f s y
+      → Showed g b (andThen g i es next) i m d f s y
   showed-and-then t v = showed-bind-then {A = Unit {0}} (λ u. next) (showed-plan tt h) t v
 
 module _ {B : Type 0} {g : Geometry} {b : Budget} {es : List Event} {i o : List ℕ} {r : Spent} (next : List ℕ → Plan B) (h : Did g b es i o r) where

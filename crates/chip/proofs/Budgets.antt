@@ -61,7 +61,8 @@ pub made-more : (b : Budget) (xs ys : List Event) → spend b (storeCount xs) .c
 unfolding spend made
 made-more b xs ys e = go (b .limited) (b .left) e
   where
-    go : (l : Bool) (k : ℕ) → spend (limit l k) (storeCount xs) .cut ≡ false → made (limit l k) (xs ++ ys) ≡ xs ++ made (spend (limit l k) (storeCount xs) .budget) ys
+    go : (l : Bool) (k : ℕ) → spend (limit l k) (storeCount xs) .cut ≡ false
+        → made (limit l k) (xs ++ ys) ≡ xs ++ made (spend (limit l k) (storeCount xs) .budget) ys
     go false k e = refl
     go true k e = before-more k xs ys (ltb-false k (storeCount xs) e)
 

@@ -30,7 +30,8 @@ free-uncut h = ap (λ (s : Spent). s .cut) (h .answer)
 
 -- ---- with the limit k
 
-is-cut : {g : Geometry} {k : ℕ} {es : List Event} {i o : List ℕ} {r : Spent} → Did g (record { limited = true; left = k }) es i o r → ltb k (storeCount es) ≡ r .cut
+is-cut : {g : Geometry} {k : ℕ} {es : List Event} {i o : List ℕ} {r : Spent} → Did g (record { limited = true; left = k }) es i o r
+    → ltb k (storeCount es) ≡ r .cut
 unfolding spend
 is-cut h = ap (λ (s : Spent). s .cut) (sym (h .answer))
 
@@ -38,8 +39,10 @@ module _ {g : Geometry} {i o : List ℕ} {r : Spent} {x : Answer} (k : ℕ) (p :
   pub showed-limited-cut : {d e : List ℕ} → Showed g (record { limited = true; left = k }) p i o d e r x → r .cut ≡ true
       → WholeShown g (limited k p) i o d e (refused refusal.Cut)
   unfolding limited made
-  showed-limited-cut h t = rw (is-cut (h .acted .did) ∙ t) (record { whole = record { image = h .acted .did .image; answer = refl }; buffer = h .acted .buffer })
+  showed-limited-cut h t =
+      rw (is-cut (h .acted .did) ∙ t) (record { whole = record { image = h .acted .did .image; answer = refl }; buffer = h .acted .buffer })
 
-  pub showed-limited-done : {d e : List ℕ} → Showed g (record { limited = true; left = k }) p i o d e r x → r .cut ≡ false → WholeShown g (limited k p) i o d e x
+  pub showed-limited-done : {d e : List ℕ} → Showed g (record { limited = true; left = k }) p i o d e r x → r .cut ≡ false
+      → WholeShown g (limited k p) i o d e x
   unfolding limited
   showed-limited-done h t = rw (is-cut (h .acted .did) ∙ t) (showed-whole t h)

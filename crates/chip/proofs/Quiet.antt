@@ -53,7 +53,8 @@ quiet-buffer g (copy a n ∷ es) i d e = absurd (omega arith)
 
 -- ---- so a run of them
 
-pub acted-quiet : {g : Geometry} {b : Budget} {es : List Event} {i o : List ℕ} {r : Spent} (d : List ℕ) → copyCount es ≡ 0 → Did g b es i o r → Acted g b es i o d d r
+pub acted-quiet : {g : Geometry} {b : Budget} {es : List Event} {i o : List ℕ} {r : Spent} (d : List ℕ) → copyCount es ≡ 0
+    → Did g b es i o r → Acted g b es i o d d r
 acted-quiet {g} {b} {es} {i} d e h = record { did = h; buffer = sym (quiet-buffer g (made b es) i d (quiet-made b es e)) }
 
 -- ---- the events that are such

@@ -14,7 +14,8 @@ use Rattle.chip.proofs.Quiet.{acted-quiet, repair-quiet}
 use Rattle.chip.proofs.Binding.{ran-of, showed-of, showed-none, showed-bind-cut, showed-bind-then, showed-and-cut, showed-and-then}
 
 -- x is what the first run of the step, from w, came to
-module _ {W A : Type 0} {g : Geometry} {b : Budget} {i o d e : List ℕ} {r : Spent} {x : Try W A} (step : W → List ℕ → Plan (Try W A)) (w : W) (h : Showed g b (step w i) i o d e r x) where
+module _ {W A : Type 0} {g : Geometry} {b : Budget} {i o d e : List ℕ} {r : Spent} {x : Try W A} (step : W → List ℕ → Plan (Try W A))
+    (w : W) (h : Showed g b (step w i) i o d e r x) where
   pub showed-repair-cut : (y : Try W A) → r .cut ≡ true → Showed g b (withRepair g step w i) i o d e r y
   unfolding withRepair
   showed-repair-cut y t = showed-bind-cut (retry g step) h y t
@@ -37,7 +38,8 @@ module _ {W A : Type 0} {g : Geometry} {b : Budget} {i o d e : List ℕ} {r : Sp
     showed-repair-again u l = showed-bind-then (retry g step) h t (rw q (showed-and-then (step v) (acted-quiet e (repair-quiet g o) k) u l))
 
 -- the same where nothing is said of a buffer
-module _ {W A : Type 0} {g : Geometry} {b : Budget} {i o : List ℕ} {r : Spent} {x : Try W A} (step : W → List ℕ → Plan (Try W A)) (w : W) (h : Ran g b (step w i) i o r x) where
+module _ {W A : Type 0} {g : Geometry} {b : Budget} {i o : List ℕ} {r : Spent} {x : Try W A} (step : W → List ℕ → Plan (Try W A)) (w : W)
+    (h : Ran g b (step w i) i o r x) where
   pub repair-cut : (y : Try W A) → r .cut ≡ true → Ran g b (withRepair g step w i) i o r y
   repair-cut y t = ran-of (showed-repair-cut step w (showed-of [] h) y t)
 

@@ -24,7 +24,8 @@ put-cons a x xs l h =
 
 pub and-step : (im : List ℕ) (a : ℕ) (word : List ℕ) (i : ℕ) → i < length word → a + i < length im
     → put (a + i) (ands (drop (a + i) im) (drop i word)) im
-    ≡ put (a + (i + 1)) (ands (drop (a + (i + 1)) (set im (a + i) (bitAnd (getD im (a + i) 0) (getD word i 0)))) (drop (i + 1) word)) (set im (a + i) (bitAnd (getD im (a + i) 0) (getD word i 0)))
+    ≡ put (a + (i + 1)) (ands (drop (a + (i + 1)) (set im (a + i) (bitAnd (getD im (a + i) 0) (getD word i 0)))) (drop (i + 1) word))
+    (set im (a + i) (bitAnd (getD im (a + i) 0) (getD word i 0)))
 unfolding ands
 and-step im a word i h k =
     let e : a + (i + 1) ≡ suc (a + i) = omega arith in

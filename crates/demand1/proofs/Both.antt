@@ -30,7 +30,8 @@ both-cond false e f = f refl
 
 module _ {g : Geometry} {n : ℕ} (S : Laid g n) where
   -- a plan, and what follows it
-  pub both-bind : {A B : Type 0} (Q : A → Type 0) {R : B → Type 0} (im jm : List ℕ) {p q : Plan A} (follow : A → List ℕ → Plan B) → Alike g n im jm → Both g Q p q
+  pub both-bind : {A B : Type 0} (Q : A → Type 0) {R : B → Type 0} (im jm : List ℕ) {p q : Plan A} (follow : A → List ℕ → Plan B)
+      → Alike g n im jm → Both g Q p q
       → ((a : A) → Q a → (im jm : List ℕ) → Alike g n im jm → Both g R (follow a im) (follow a jm)) → Both g R (bind g im p follow) (bind g jm q follow)
   unfolding bind
   both-bind Q im jm {p} {q} follow A b f =
@@ -82,7 +83,8 @@ module _ {g : Geometry} {n : ℕ} (S : Laid g n) where
 
     pub oldest-same : oldest g im ≡ oldest g jm
     unfolding oldest
-    oldest-same = on (youngest g im) (youngest-in g im (S .some)) ∙ ap (λ (t : Try Unit ℕ). onGiven t (λ y. foundOr (first g jm Closed (from g y)) (gives y))) youngest-same
+    oldest-same = on (youngest g im) (youngest-in g im (S .some))
+        ∙ ap (λ (t : Try Unit ℕ). onGiven t (λ y. foundOr (first g jm Closed (from g y)) (gives y))) youngest-same
       where
         on : (t : Try Unit ℕ) → Tried Any (λ p. p < g .pages) t
             → onGiven t (λ y. foundOr (first g im Closed (from g y)) (gives y)) ≡ onGiven t (λ y. foundOr (first g jm Closed (from g y)) (gives y))

@@ -24,7 +24,8 @@ use Rattle.demand1.proofs.Shows.{lasts-front, peek-last, pop-last}
 use Rattle.demand1.proofs.SearchRows.{search-seen}
 
 -- what is seen stands at the buffer's front
-module _ (g : Geometry) (im : List ℕ) (s : Shape) (e : check (length im) s ≡ Accepted g) (n k : ℕ) (hs : List Head) (w : Way g im hs) (seen : Seen g n hs k) (buf : List ℕ) (l : n ≤ length buf) where
+module _ (g : Geometry) (im : List ℕ) (s : Shape) (e : check (length im) s ≡ Accepted g) (n k : ℕ) (hs : List Head) (w : Way g im hs)
+    (seen : Seen g n hs k) (buf : List ℕ) (l : n ≤ length buf) where
   met-is : search g im n .answer ≡ this (seen .head)
   met-is = search-seen (accepted-from (length im) s g e .laid) im refl n w seen
 
@@ -37,7 +38,8 @@ module _ (g : Geometry) (im : List ℕ) (s : Shape) (e : check (length im) s ≡
 pub of-buffer : OfBuffer
 unfolding planFor bufferAfter
 of-buffer = record {
-  push-keeps = λ g im slip buf over. tail-stays g im buf (push g im slip over .events) 0 (push-does {P = Copies 0} (λ a word. tt) (λ p. tt) g over im slip .each) (omega arith) .1;
+  push-keeps = λ g im slip buf over. tail-stays g im buf (push g im slip over .events) 0
+      (push-does {P = Copies 0} (λ a word. tt) (λ p. tt) g over im slip .each) (omega arith) .1;
   shape-keeps = λ s im buf c r e. ap (λ (es : List Event). bufferAfter (geometryOf s) es im buf) (of-shape .unchanged s im c r e);
   peek-fits = λ g im n. peek-does g n im .each;
   pop-fits = λ g im n. pop-does g n im .each;

@@ -54,7 +54,8 @@ module _ (n : ℕ) (s : Shape) where
   -- the rules of the rows from m up to 17
   data Ruled : ℕ → List Rule → Type 0 where
     none : Ruled 18 []
-    row : (m : ℕ) {r : Rule} {rs : List Rule} → r .refusal ≡ shapeRow m → rowNumber (r .refusal) ≡ m → Tells (Broken n s (r .refusal)) (r .broken) → Ruled (suc m) rs
+    row : (m : ℕ) {r : Rule} {rs : List Rule} → r .refusal ≡ shapeRow m → rowNumber (r .refusal) ≡ m
+        → Tells (Broken n s (r .refusal)) (r .broken) → Ruled (suc m) rs
         → Ruled m (r ∷ rs)
 
   ruled : Ruled 9 (rules n s)
@@ -66,14 +67,18 @@ module _ (n : ℕ) (s : Shape) where
       (row 12 refl refl (tells-lt (s .end) (s .start + s .page))
       (row 13 refl refl (tells-lt (s .page) (3 * s .word + roundUp (s .word) 8))
       (row 14 refl refl (tells-lt 32 (s .word))
-      (row 15 refl refl (tells-same none-of each-not (tells-not (tells-or (tells-or (tells-or (tells-eq (s .word) 4) (tells-eq (s .word) 8)) (tells-eq (s .word) 16)) (tells-eq (s .word) 32))))
+      (row 15 refl refl (tells-same none-of each-not
+      (tells-not (tells-or (tells-or (tells-or (tells-eq (s .word) 4) (tells-eq (s .word) 8)) (tells-eq (s .word) 16))
+      (tells-eq (s .word) 32))))
       (row 16 refl refl (tells-or (tells-lt 4096 (s .page)) (tells-lt 64 ((s .end - s .start) / s .page)))
       (row 17 refl refl (tells-lt n (s .end)) none))))))))
     where
-      none-of : ((((s .word ≡ 4) ⊎ (s .word ≡ 8)) ⊎ (s .word ≡ 16)) ⊎ (s .word ≡ 32) → ⊥) → (s .word ≡ 4 → ⊥) × (s .word ≡ 8 → ⊥) × (s .word ≡ 16 → ⊥) × (s .word ≡ 32 → ⊥)
+      none-of : ((((s .word ≡ 4) ⊎ (s .word ≡ 8)) ⊎ (s .word ≡ 16)) ⊎ (s .word ≡ 32) → ⊥)
+          → (s .word ≡ 4 → ⊥) × (s .word ≡ 8 → ⊥) × (s .word ≡ 16 → ⊥) × (s .word ≡ 32 → ⊥)
       none-of f = (λ e. f (inl (inl (inl e))), λ e. f (inl (inl (inr e))), λ e. f (inl (inr e)), λ e. f (inr e))
 
-      each-not : (s .word ≡ 4 → ⊥) × (s .word ≡ 8 → ⊥) × (s .word ≡ 16 → ⊥) × (s .word ≡ 32 → ⊥) → (((s .word ≡ 4) ⊎ (s .word ≡ 8)) ⊎ (s .word ≡ 16)) ⊎ (s .word ≡ 32) → ⊥
+      each-not : (s .word ≡ 4 → ⊥) × (s .word ≡ 8 → ⊥) × (s .word ≡ 16 → ⊥) × (s .word ≡ 32 → ⊥)
+          → (((s .word ≡ 4) ⊎ (s .word ≡ 8)) ⊎ (s .word ≡ 16)) ⊎ (s .word ≡ 32) → ⊥
       each-not f (inl (inl (inl e))) = f .0 e
       each-not f (inl (inl (inr e))) = f .1 e
       each-not f (inl (inr e)) = f .2 e
@@ -113,7 +118,10 @@ module _ (n : ℕ) (s : Shape) where
     where
       by : Judged (check n s) → Iff (check n s ≡ Refused r) (Broken n s r × NoneBefore (rowNumber r))
       by (accepts e f) = (λ q. never (cc), λ k. absurd (f r (k .0)))
-      by (refuses x e b f) = (λ q. let z : x ≡ r = cc in subst (λ (y : Refusal). Broken n s y × NoneBefore (rowNumber y)) z (b, f), λ k. e ∙ ap Refused (one k (eqb (rowNumber x) (rowNumber r)) refl))
+      by (refuses x e b f) = (
+        λ q. let z : x ≡ r = cc in subst (λ (y : Refusal). Broken n s y × NoneBefore (rowNumber y)) z (b, f),
+        λ k. e ∙ ap Refused (one k (eqb (rowNumber x) (rowNumber r)) refl),
+      )
         where
           one : Broken n s r × NoneBefore (rowNumber r) → (t : Bool) → eqb (rowNumber x) (rowNumber r) ≡ t → x ≡ r
           one k true q = sym (broken-row x b .2) ∙ ap shapeRow (eqb-true (rowNumber x) (rowNumber r) q) ∙ broken-row r (k .0) .2

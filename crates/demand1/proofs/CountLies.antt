@@ -25,7 +25,11 @@ module _ {g : Geometry} {n : ℕ} (S : Laid g n) where
   unfolding counted
   both-counted count f im jm L =
       both-bind S (Tried Any Any) im jm (λ t im₁. plan [] (settled (refused refusal.Corrupted) t)) L
-      (both-steps S Any Any (λ u im₁. plan [] (count im₁)) (λ w v im jm L. record { one = ap (λ (t : Try Unit Answer). plan [] t) (f im jm L); lies = tt; fine = any (count im) }) tt tt im jm L)
+      (both-steps S Any Any (λ u im₁. plan [] (count im₁)) (λ w v im jm L. record {
+        one = ap (λ (t : Try Unit Answer). plan [] t) (f im jm L);
+        lies = tt;
+        fine = any (count im);
+      }) tt tt im jm L)
       (λ t v im jm L. record { one = refl; lies = tt; fine = tt })
     where
       any : (t : Try Unit Answer) → Tried Any Any t
@@ -42,9 +46,11 @@ module _ {g : Geometry} {n : ℕ} (S : Laid g n) where
 
     fit-same : fit g im ≡ fit g jm
     unfolding fit
-    fit-same = on (youngest g im) (youngest-in g im (S .some)) ∙ ap (λ (t : Try Unit ℕ). onGiven t (λ y. fitBy g jm y (state g jm (next g y)))) (youngest-same S L)
+    fit-same = on (youngest g im) (youngest-in g im (S .some))
+        ∙ ap (λ (t : Try Unit ℕ). onGiven t (λ y. fitBy g jm y (state g jm (next g y)))) (youngest-same S L)
       where
-        on : (t : Try Unit ℕ) → Tried Any (λ p. p < g .pages) t → onGiven t (λ y. fitBy g im y (state g im (next g y))) ≡ onGiven t (λ y. fitBy g jm y (state g jm (next g y)))
+        on : (t : Try Unit ℕ) → Tried Any (λ p. p < g .pages) t
+            → onGiven t (λ y. fitBy g im y (state g im (next g y))) ≡ onGiven t (λ y. fitBy g jm y (state g jm (next g y)))
         on (fails u) h = refl
         on (gives y) h = fit-by y h (state g im (next g y)) ∙ ap (fitBy g jm y) (states S L (next g y) (next-in g y h))
 

@@ -37,13 +37,15 @@ cond-numbered false a b h k = k
 module _ (g : Geometry) (im : List ℕ) where
   longest-numbered : (rest : List ℕ) → Numbered (longest g rest)
   unfolding longest
-  longest-numbered rest = cond-numbered (ltb (roundDown (g .word) (length rest)) (headerSize g)) none (number (roundDown (g .word) (length rest) - headerSize g)) tt tt
+  longest-numbered rest = cond-numbered (ltb (roundDown (g .word) (length rest)) (headerSize g)) none
+      (number (roundDown (g .word) (length rest) - headerSize g)) tt tt
 
   by-numbered : (y : ℕ) (s : PageState) → Tried Any Numbered (fitBy g im y s)
   unfolding fitBy
   by-numbered y Open = tt
   by-numbered y PartialOpen = tt
-  by-numbered y Closed = cond-numbered (anyLive (pageWalk g im (next g y) .heads)) (longest g (pageWalk g im y .rest)) (number (dataSize g)) (longest-numbered (pageWalk g im y .rest)) tt
+  by-numbered y Closed = cond-numbered (anyLive (pageWalk g im (next g y) .heads)) (longest g (pageWalk g im y .rest)) (number (dataSize g))
+      (longest-numbered (pageWalk g im y .rest)) tt
   by-numbered y Corrupted = tt
 
   fit-numbered : Tried Any Numbered (fit g im)
@@ -73,7 +75,8 @@ module _ (g : Geometry) (im : List ℕ) (count : List ℕ → Try Unit Answer) (
   unfolding counted bind
   counted-again e =
       rw (steps-again {W = Unit {0}} g (λ u im₁. plan [] (count im₁)) tt im (ap (λ (t : Try Unit Answer). plan [] t) e))
-      (ap (λ (es : List Event). plan es (settled (refused refusal.Corrupted) (count (repaired g im)))) (append-nil (repair g im ++ []) ∙ append-nil (repair g im)))
+      (ap (λ (es : List Event). plan es (settled (refused refusal.Corrupted) (count (repaired g im))))
+      (append-nil (repair g im ++ []) ∙ append-nil (repair g im)))
 
   -- what is given is no refusal
   numbered-not : {t : Try Unit Answer} {a : Answer} {r : Refusal} → Tried Any Numbered t → t ≡ gives a → a ≡ refused r → ⊥
@@ -90,7 +93,8 @@ module _ (g : Geometry) (im : List ℕ) (count : List ℕ → Try Unit Answer) (
   of-counted : OfCount g im count (counted g im count)
   of-counted = by (count im) refl
     where
-      again : (t : Try Unit Answer) → count (repaired g im) ≡ t → (u : Unit {0}) → count im ≡ fails u → settled (refused refusal.Corrupted) t ≡ refused refusal.Corrupted → Fails t
+      again : (t : Try Unit Answer) → count (repaired g im) ≡ t → (u : Unit {0}) → count im ≡ fails u
+          → settled (refused refusal.Corrupted) t ≡ refused refusal.Corrupted → Fails t
       again (fails v) q u e f = failed
       again (gives a) q u e f = absurd (numbered-not (numbered (repaired g im)) q f)
 

@@ -84,7 +84,8 @@ module _ (k : ℕ) (p : Plan Answer) where
   unfolding limited
   cut-is f = by (ltb k (storeCount (p .events))) refl
     where
-      by : (t : Bool) → ltb k (storeCount (p .events)) ≡ t → cond t (plan (before k (p .events)) (refused refusal.Cut)) p .answer ≡ refused refusal.Cut → k < storeCount (p .events)
+      by : (t : Bool) → ltb k (storeCount (p .events)) ≡ t
+          → cond t (plan (before k (p .events)) (refused refusal.Cut)) p .answer ≡ refused refusal.Cut → k < storeCount (p .events)
       by true q e = ltb-true k (storeCount (p .events)) q
       by false q e = absurd (f e)
 

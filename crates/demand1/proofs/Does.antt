@@ -63,7 +63,8 @@ pub record Does {A : Type 0} (P : Event → Type 0) (Q : A → Type 0) (p : Plan
   pub each : Each P (p .events)
   pub answers : Q (p .answer)
 
-pub does-cond : {A : Type 0} {P : Event → Type 0} {Q : A → Type 0} {p q : Plan A} (t : Bool) → (t ≡ true → Does P Q p) → (t ≡ false → Does P Q q) → Does P Q (cond t p q)
+pub does-cond : {A : Type 0} {P : Event → Type 0} {Q : A → Type 0} {p q : Plan A} (t : Bool) → (t ≡ true → Does P Q p)
+    → (t ≡ false → Does P Q q) → Does P Q (cond t p q)
 does-cond true e f = e refl
 does-cond false e f = f refl
 

@@ -37,7 +37,8 @@ module _ (g : Geometry) (im : List ℕ) where
   first-missing want (p ∷ ps) e = by (same (state g im p) Corrupted) (same (state g im p) want) refl refl e (first-missing want ps)
     where
       by : (s t : Bool) → same (state g im p) Corrupted ≡ s → same (state g im p) want ≡ t → cond s failed (cond t (found p) (first g im want ps)) ≡ missing
-          → (first g im want ps ≡ missing → Each (λ p. Not Corrupted p × Not want p) ps) → (Not Corrupted p × Not want p) × Each (λ p. Not Corrupted p × Not want p) ps
+          → (first g im want ps ≡ missing → Each (λ p. Not Corrupted p × Not want p) ps)
+          → (Not Corrupted p × Not want p) × Each (λ p. Not Corrupted p × Not want p) ps
       by true t a b f r = never (cc)
       by false true a b f r = never (cc)
       by false false a b f r = ((a, b), r f)

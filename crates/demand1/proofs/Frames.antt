@@ -49,7 +49,8 @@ module _ {g : Geometry} {n : ℕ} (S : Laid g n) (im : List ℕ) (long : length 
     unfolding setStart imageBy
     marked-put =
         let L = layout S q in
-        ap (λ (x : List ℕ). put (pageStart g q) x im) (ands-zeros (drop (pageStart g q) im) (g .word) (omega (arith, length-drop (pageStart g q) im, page-in g q hq, S .ends)))
+        ap (λ (x : List ℕ). put (pageStart g q) x im)
+        (ands-zeros (drop (pageStart g q) im) (g .word) (omega (arith, length-drop (pageStart g q) im, page-in g q hq, S .ends)))
 
     mark-fits : pageStart g q + length (replicate {A = ℕ} (g .word) 0) ≤ length im
     mark-fits = omega (arith, length-replicate {A = ℕ} (g .word) 0, layout S q .split, page-in g q hq, S .ends)
@@ -73,7 +74,8 @@ module _ {g : Geometry} {n : ℕ} (S : Laid g n) (im : List ℕ) (long : length 
         let L = layout S q in
         let w = length-replicate {A = ℕ} (g .word) 0 in
         let a : part (pageStart g q) (g .word) (imageBy g (setStart g q) im) ≡ replicate (g .word) 0 =
-        ap (part (pageStart g q) (g .word)) marked-put ∙ part-filled (pageStart g q) (g .word) 0 im (omega (arith, mark-fits)) (pageStart g q) (g .word) (omega arith) (omega arith) in
+        ap (part (pageStart g q) (g .word)) marked-put
+        ∙ part-filled (pageStart g q) (g .word) 0 im (omega (arith, mark-fits)) (pageStart g q) (g .word) (omega arith) (omega arith) in
         let b : part (dataEnd g q) (g .word) (imageBy g (setStart g q) im) ≡ part (dataEnd g q) (g .word) im =
         ap (part (dataEnd g q) (g .word)) marked-put ∙ part-after (pageStart g q) (replicate (g .word) 0) im mark-fits (dataEnd g q) (g .word) (omega arith) in
         rw (a, b, zeros-set (g .word) (S .low), open-end (isSet (part (pageStart g q) (g .word) im)) (isSet (part (dataEnd g q) (g .word) im)) e)

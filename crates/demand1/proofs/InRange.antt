@@ -58,7 +58,9 @@ module _ (s : Shape) (im : List ℕ) where
       })
 
   -- what a call may do in place of its plan: nothing but the plan's own events
-  module _ (c : Request) (some : Plan Answer → List Event) (less : (P : Event → Type 0) (p : Plan Answer) → Each P (p .events) → Each P (some p)) (none : (a : Answer) → some (plan [] a) ≡ []) where
+  module _ (c : Request) (some : Plan Answer → List Event)
+      (less : (P : Event → Type 0) (p : Plan Answer) → Each P (p .events) → Each P (some p))
+      (none : (a : Answer) → some (plan [] a) ≡ []) where
     held : Held s im (some (requested s im c))
     unfolding requested call
     held = on (check (length im) s) refl
@@ -141,7 +143,8 @@ in-range = record {
   outside-limited = λ k s im c. held s im c (λ p. limited k p .events) (limited-less k) (limited-none k);
   no-say = no-say;
   no-say-image = λ k s im jm A c.
-      subst (λ (p : Plan Answer). Agree s (afterLimit k s im c) (imageAfter (geometryOf s) (limited k p .events) jm)) (no-say s im jm A c) (same-image s im jm A c k);
+      subst (λ (p : Plan Answer). Agree s (afterLimit k s im c) (imageAfter (geometryOf s) (limited k p .events) jm)) (no-say s im jm A c)
+      (same-image s im jm A c k);
   no-say-buffer = λ k s im jm A c buf.
       same-buffer s im jm A c k buf ∙ ap (λ (p : Plan Answer). bufferAfter (geometryOf s) (limited k p .events) jm buf) (no-say s im jm A c);
 }

@@ -54,8 +54,11 @@ module _ (g : Geometry) (d : List ℕ) {c n : ℕ} {body : List ℕ} where
           → (headerSize g + roundUp (g .word) n ≤ length d) × (part (headerSize g) n d ≡ body)
       by true true f e =
           let q : len ≡ n = cc in
-          let p : part (headerSize g) len d ≡ body = cc in
-          (subst (λ (x : ℕ). headerSize g + roundUp (g .word) x ≤ length d) q (leb-true (headerSize g + roundUp (g .word) len) (length d) f), ap (λ (x : ℕ). part (headerSize g) x d) (sym q) ∙ p)
+          let p : part (headerSize g) len d ≡ body = cc in (
+            subst (λ (x : ℕ). headerSize g + roundUp (g .word) x ≤ length d) q
+                (leb-true (headerSize g + roundUp (g .word) len) (length d) f),
+            ap (λ (x : ℕ). part (headerSize g) x d) (sym q) ∙ p,
+          )
       by true false f e = never (cc)
       by false t f e = never (cc)
 

@@ -122,7 +122,8 @@ module _ {g : Geometry} {n : ℕ} (S : Laid g n) where
       }
 
   -- copies from the range are the same
-  pub alike-buffer : (es : List Event) {im jm : List ℕ} → Alike g n im jm → Each (Lies g) es → (buf : List ℕ) → bufferAfter g es im buf ≡ bufferAfter g es jm buf
+  pub alike-buffer : (es : List Event) {im jm : List ℕ} → Alike g n im jm → Each (Lies g) es → (buf : List ℕ)
+      → bufferAfter g es im buf ≡ bufferAfter g es jm buf
   unfolding bufferAfter bufferBy
   alike-buffer [] A h buf = refl
   alike-buffer (store a word ∷ es) A h buf = alike-buffer es (alike-by A (store a word) (h .0)) (h .1) buf

@@ -71,7 +71,9 @@ module _ (g : Geometry) (n : ℕ) where
       read = copy (h .place + headerSize g) (roundUp (g .word) (h .len)) ∷ []
 
       by : (a b c : Bool) → ((im : List ℕ) → readHeads g n hs im .answer ≡ meet hs)
-          → cond a (readHeads g n hs im) (cond b (plan [] (long size)) (cond c (plan read (met h)) (andThen g im read (readHeads g n hs)))) .answer ≡ meetBy a b c h (meet hs)
+          → cond a (readHeads g n hs im)
+          (cond b (plan [] (long size)) (cond c (plan read (met h)) (andThen g im read (readHeads g n hs)))) .answer
+          ≡ meetBy a b c h (meet hs)
       by true b c f = f im
       by false true c f = refl
       by false false true f = refl
@@ -152,7 +154,8 @@ module _ (g : Geometry) (n : ℕ) where
       here : Stops g n (h ∷ hs) h
       here = record { front = []; rest = hs; all = refl; passed = tt }
 
-      by : (a b c : Bool) → live h ≡ a → ltb n (roundUp (g .word) (h .len)) ≡ b → present h ≡ c → Meets hs (meet hs) → Meets (h ∷ hs) (meetBy (not a) b c h (meet hs))
+      by : (a b c : Bool) → live h ≡ a → ltb n (roundUp (g .word) (h .len)) ≡ b → present h ≡ c → Meets hs (meet hs)
+          → Meets (h ∷ hs) (meetBy (not a) b c h (meet hs))
       by false b c x y z r = meets-later h hs (meet hs) (inl x) r
       by true true c x y z r = tooLong h here x (ltb-true n (roundUp (g .word) (h .len)) y)
       by true false true x y z r = seen h here z (ltb-false n (roundUp (g .word) (h .len)) y)

@@ -25,7 +25,10 @@ module _ {P : Event → Type 0} (stores : (a : ℕ) (word : List ℕ) → P (sto
 
   take-does : (y x : ℕ) (im : List ℕ) → Does {A = Try Unit Spot} P Any (takePage g over y x im)
   unfolding takePage erasePage setStart setEnd
-  take-does y x im = does-cond (not over && anyLive (pageWalk g im x .heads)) (λ e. nothing-done) (λ e. record { each = (erases x, by (eqb x y)); answers = tt })
+  take-does y x im = does-cond (not over && anyLive (pageWalk g im x .heads)) (λ e. nothing-done) (λ e. record {
+    each = (erases x, by (eqb x y));
+    answers = tt;
+  })
     where
       by : (t : Bool) → Each P (cond t [] (setEnd g y ∷ []) ++ (setStart g x ∷ []))
       by true = (stores _ _, tt)
@@ -71,4 +74,8 @@ module _ {P : Event → Type 0} (stores : (a : ℕ) (word : List ℕ) → P (sto
       on (gives (at a)) v im =
           let header : List ℕ = encode g (dataCrc slip) (length slip) in
           let b : ℕ = a + headerSize g in
-          record { each = each-append P (writes g a header) (writes g b slip) (writes-store g P stores a header) (writes-store g P stores b slip); answers = tt }
+          record {
+            each =
+                each-append P (writes g a header) (writes g b slip) (writes-store g P stores a header) (writes-store g P stores b slip);
+            answers = tt;
+          }

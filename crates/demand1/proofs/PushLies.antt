@@ -41,7 +41,8 @@ module _ {g : Geometry} {n : ℕ} (S : Laid g n) (m : ℕ) (small : tooBig g m �
   unfolding tooBig roundDown
   fits =
       let w : ℕ = g .word in
-      let k : headerSize g + m ≤ dataSize g = ltb-false (dataSize g) (headerSize g + m) (neither (ltb lengthLimit m) (ltb (dataSize g) (headerSize g + m)) small .1) in
+      let k : headerSize g + m ≤ dataSize g =
+      ltb-false (dataSize g) (headerSize g + m) (neither (ltb lengthLimit m) (ltb (dataSize g) (headerSize g + m)) small .1) in
       let d : roundDown w (dataSize g) ≡ dataSize g = div-mul-cancel w {m = dataSize g} (layout S 0 .size-whole) in
       omega (arith, header-behind g (S .low) (dataSize g) m (omega arith))
 
@@ -62,7 +63,8 @@ module _ {g : Geometry} {n : ℕ} (S : Laid g n) (m : ℕ) (small : tooBig g m �
     both-turn Closed = both-take
     both-turn Corrupted = record { one = refl; lies = tt; fine = tt }
 
-  both-find : (over : Bool) (y : ℕ) → y < g .pages → (im jm : List ℕ) → Alike g n im jm → Both g (SpotFine g m) (findSpot g m over y im) (findSpot g m over y jm)
+  both-find : (over : Bool) (y : ℕ) → y < g .pages → (im jm : List ℕ) → Alike g n im jm
+      → Both g (SpotFine g m) (findSpot g m over y im) (findSpot g m over y jm)
   unfolding findSpot freeSpot
   both-find over y h im jm L =
       let k = next-in g y h in
@@ -70,7 +72,8 @@ module _ {g : Geometry} {n : ℕ} (S : Laid g n) (m : ℕ) (small : tooBig g m �
       (both-cond (serves g (pageWalk g im y .rest) m) (λ e. record { one = refl; lies = tt; fine = spot-room S im (L .long) y h m e })
       (λ e. both-turn L over y (next g y) h k (state g im (next g y))))
 
-  both-spot : (over : Bool) (t : Try Unit ℕ) → Tried Any (λ p. p < g .pages) t → (im jm : List ℕ) → Alike g n im jm → Both g (SpotFine g m) (spotOn g m over t im) (spotOn g m over t jm)
+  both-spot : (over : Bool) (t : Try Unit ℕ) → Tried Any (λ p. p < g .pages) t → (im jm : List ℕ) → Alike g n im jm
+      → Both g (SpotFine g m) (spotOn g m over t im) (spotOn g m over t jm)
   unfolding spotOn
   both-spot over (fails u) h im jm L = record { one = refl; lies = tt; fine = tt }
   both-spot over (gives y) h im jm L =

@@ -64,7 +64,13 @@ module _ {g : Geometry} {n : ℕ} (S : Laid g n) (im : List ℕ) (long : length 
   spotted-again e = record {
     is-full = λ k. by (k .0) (k .1);
     full-is = λ q. let F = at-full q in (F .off, inr (is-fails (sym (without (F .off)) ∙ e), F .is-full));
-    full-only = λ q. record { repairs = repair g im; mark = step (repaired g im) .events; all = refl; maybe-repaired = inr refl; maybe-marked = at-full q .only };
+    full-only = λ q. record {
+      repairs = repair g im;
+      mark = step (repaired g im) .events;
+      all = refl;
+      maybe-repaired = inr refl;
+      maybe-marked = at-full q .only;
+    };
     is-lost = λ k. k .1;
     lost-is = λ k. (is-fails e, k);
     lost-only = λ k. quiet (step (repaired g im) .answer) refl k;
@@ -154,6 +160,8 @@ module _ {g : Geometry} {n : ℕ} (S : Laid g n) (im : List ℕ) (long : length 
   unfolding push bind
   of-push = by (tooBig g (length slip)) refl
     where
-      by : (t : Bool) → tooBig g (length slip) ≡ t → OfPush g im slip over (cond t (plan [] (refused refusal.ItemTooBig)) (bind g im (spotFor g im (length slip) over) (pushAt g slip)))
+      by : (t : Bool) → tooBig g (length slip) ≡ t
+          → OfPush g im slip over
+          (cond t (plan [] (refused refusal.ItemTooBig)) (bind g im (spotFor g im (length slip) over) (pushAt g slip)))
       by true e = of-big (told-yes big-tells e)
       by false e = of-spot (told-no big-tells e) (spotFor g im (length slip) over .events) (spotFor g im (length slip) over .answer) spotted

@@ -91,7 +91,8 @@ module _ {g : Geometry} {n : ℕ} (S : Laid g n) (m : ℕ) (im : List ℕ) (long
     plan-of e f = ap₂ (λ (es : List Event) (t : Try Unit Spot). plan es t) e f
 
     -- after its start mark an Open page's step does not fail
-    marked-gives : (y : ℕ) → y < g .pages → state g im y ≡ Open → ((p : ℕ) → p < g .pages → (same (state g im p) Corrupted ≡ false) × (same (state g im p) PartialOpen ≡ false))
+    marked-gives : (y : ℕ) → y < g .pages → state g im y ≡ Open
+        → ((p : ℕ) → p < g .pages → (same (state g im p) Corrupted ≡ false) × (same (state g im p) PartialOpen ≡ false))
         → {u : Unit {0}} → findSpot g m over y (marked y) .answer ≡ fails u → ⊥
     marked-gives y hy s calm e = by (apart (next g y) y) (find-fails g m over y (marked y) e .because)
       where
@@ -148,7 +149,11 @@ module _ {g : Geometry} {n : ℕ} (S : Laid g n) (m : ℕ) (im : List ℕ) (long
             record {
               off = f .0;
               is-full = full-of y q (room-unmarked y (young-in y q) (f .1));
-              only = inr (record { page = y; current = q; is = ap (λ (x : Plan (Try Unit Spot)). x .events) z ∙ ap (λ (es : List Event). setStart g y ∷ es) (f .2) });
+              only = inr (record {
+                page = y;
+                current = q;
+                is = ap (λ (x : Plan (Try Unit Spot)). x .events) z ∙ ap (λ (es : List Event). setStart g y ∷ es) (f .2);
+              });
             }
 
         by : (t : Try Unit ℕ) → youngest g im ≡ t → FullStep

@@ -50,7 +50,8 @@ module _ {g : Geometry} {n : ℕ} (S : Laid g n) (im : List ℕ) where
       by (differs e) = state-same S (imageBy g (erase q) jm) jm p (erase-other S jm long q hq p hp e) ∙ o
 
   module _ (p : ℕ) (hp : p < g .pages) where
-    open-stays : (ps : List ℕ) → Each (λ q. q < g .pages) ps → (jm : List ℕ) → length jm ≡ n → state g jm p ≡ Open → state g (imageAfter g (repairs g im ps) jm) p ≡ Open
+    open-stays : (ps : List ℕ) → Each (λ q. q < g .pages) ps → (jm : List ℕ) → length jm ≡ n → state g jm p ≡ Open
+        → state g (imageAfter g (repairs g im ps) jm) p ≡ Open
     unfolding repairs imageAfter erasePage
     open-stays [] h jm long o = o
     open-stays (q ∷ ps) h jm long o = by (same (state g im q) Corrupted) (open-stays ps (h .1))
@@ -66,11 +67,14 @@ module _ {g : Geometry} {n : ℕ} (S : Laid g n) (im : List ℕ) where
     kept-stays s [] h jm long = refl
     kept-stays s (q ∷ ps) h jm long = by (same (state g im q) Corrupted) refl (kept-stays s ps (h .1))
       where
-        by : (t : Bool) → same (state g im q) Corrupted ≡ t → ((jm : List ℕ) → length jm ≡ n → pageBytes g (imageAfter g (repairs g im ps) jm) p ≡ pageBytes g jm p)
+        by : (t : Bool) → same (state g im q) Corrupted ≡ t
+            → ((jm : List ℕ) → length jm ≡ n → pageBytes g (imageAfter g (repairs g im ps) jm) p ≡ pageBytes g jm p)
             → pageBytes g (imageAfter g (cond t (erasePage g q ++ repairs g im ps) (repairs g im ps)) jm) p ≡ pageBytes g jm p
         by true e f =
             f (imageBy g (erase q) jm) (erase-long S jm long q (h .0))
-            ∙ erase-other S jm long q (h .0) p hp (λ z. let x : same (state g im q) Corrupted ≡ false = subst (λ (y : ℕ). same (state g im y) Corrupted ≡ false) z s in never (cc))
+            ∙ erase-other S jm long q (h .0) p hp
+            (λ z. let x : same (state g im q) Corrupted ≡ false = subst (λ (y : ℕ). same (state g im y) Corrupted ≡ false) z s in
+            never (cc))
         by false e f = f jm long
 
   mends : (ps : List ℕ) → Each (λ q. q < g .pages) ps → (jm : List ℕ) → length jm ≡ n
@@ -84,7 +88,8 @@ module _ {g : Geometry} {n : ℕ} (S : Laid g n) (im : List ℕ) where
 
       by : (t : Bool) → same (state g im q) Corrupted ≡ t
           → ((jm : List ℕ) → length jm ≡ n → Each (λ p. same (state g im p) Corrupted ≡ true → state g (imageAfter g (repairs g im ps) jm) p ≡ Open) ps)
-          → (same (state g im q) Corrupted ≡ true → state g (after t) q ≡ Open) × Each (λ p. same (state g im p) Corrupted ≡ true → state g (after t) p ≡ Open) ps
+          → (same (state g im q) Corrupted ≡ true → state g (after t) q ≡ Open)
+          × Each (λ p. same (state g im p) Corrupted ≡ true → state g (after t) p ≡ Open) ps
       by true e f = (
         λ c. open-stays q (h .0) ps (h .1) (imageBy g (erase q) jm) (erase-long S jm long q (h .0)) (erase-open S jm long q (h .0)),
         f (imageBy g (erase q) jm) (erase-long S jm long q (h .0)),
@@ -100,5 +105,6 @@ module _ {g : Geometry} {n : ℕ} (S : Laid g n) (im : List ℕ) where
     mended p h = by (same (state g im p) Corrupted) refl
       where
         by : (t : Bool) → same (state g im p) Corrupted ≡ t → Mended g im (repaired g im) p
-        by true e = opened e (all-of g (λ q. same (state g im q) Corrupted ≡ true → state g (repaired g im) q ≡ Open) (mends (allPages g) (all-in g (S .some)) im long) p h e)
+        by true e = opened e (all-of g (λ q. same (state g im q) Corrupted ≡ true → state g (repaired g im) q ≡ Open)
+            (mends (allPages g) (all-in g (S .some)) im long) p h e)
         by false e = kept e (kept-stays p h e (allPages g) (all-in g (S .some)) im long)

@@ -70,7 +70,8 @@ module _ (g : Geometry) (n : ℕ) where
   unfolding nextItem readPage onMet leavePage
   next-does old clears zero s im = record { each = tt; answers = tt }
   next-does old clears (suc k) (fromAddress a) im =
-      does-bind g (MetOf g n (Whole g im)) im (onMet (nextItem g n old clears k s)) (heads-do (Whole g im) (walkOn g im a .heads) (walk-on-whole g im a) im) (on (next-does old clears k s))
+      does-bind g (MetOf g n (Whole g im)) im (onMet (nextItem g n old clears k s))
+      (heads-do (Whole g im) (walkOn g im a .heads) (walk-on-whole g im a) im) (on (next-does old clears k s))
     where
       s : Stand
       s = afterPage (pageOf g a)
@@ -84,12 +85,16 @@ module _ (g : Geometry) (n : ℕ) where
       let s : Stand = fromAddress (dataStart g (next g p)) in
       does-cond (same (state g im (next g p)) Corrupted) (λ t. record { each = tt; answers = tt })
       (λ t. does-cond (same (state g im (next g p)) Open || eqb (next g p) old) (λ t. record { each = tt; answers = tt })
-      (λ t. does-bind g {A = Unit {0}} Any im (λ u. nextItem g n old clears k s) (record { each = left-does g (Copies n) clears p (λ t. tt); answers = tt }) (λ u v. next-does old clears k s)))
+      (λ t. does-bind g {A = Unit {0}} Any im (λ u. nextItem g n old clears k s) (record {
+        each = left-does g (Copies n) clears p (λ t. tt);
+        answers = tt;
+      }) (λ u v. next-does old clears k s)))
 
   search-does : (im : List ℕ) → Does (Copies n) (OutFits n) (search g im n)
   unfolding search startStep searchOn nextStep
   search-does im =
-      does-bind g (Tried Any Any) im (searchOn g n) (does-steps g Any Any (startStep g) (λ p. tt) (λ u v i. record { each = tt; answers = any (oldest g i) }) tt tt im) on
+      does-bind g (Tried Any Any) im (searchOn g n)
+      (does-steps g Any Any (startStep g) (λ p. tt) (λ u v i. record { each = tt; answers = any (oldest g i) }) tt tt im) on
     where
       any : (t : Try Unit ℕ) → Tried Any Any t
       any (fails u) = tt
@@ -103,7 +108,8 @@ module _ (g : Geometry) (n : ℕ) where
       on (fails u) v im = record { each = tt; answers = tt }
       on (gives old) v im =
           does-bind g NextFits im (λ t im₁. plan [] (settled spoilt t))
-          (does-steps g Any (OutFits n) (nextStep g n old true) (λ p. tt) (λ s v. next-does old true (2 * g .pages) s) (fromAddress (dataStart g old)) tt im) end
+          (does-steps g Any (OutFits n) (nextStep g n old true) (λ p. tt) (λ s v. next-does old true (2 * g .pages) s)
+          (fromAddress (dataStart g old)) tt im) end
 
   -- what is shown fits the buffer
   abbrev Shows : Answer → Type 0

@@ -54,7 +54,8 @@ module _ {g : Geometry} {n : ℕ} (S : Laid g n) (b : ℕ) where
   abbrev NextFine : Try Stand Outcome → Type 0
   NextFine = Tried (StandIn g) (OutPlaced g)
 
-  both-read : (a : ℕ) → InData g a → (further : List ℕ → Plan (Try Stand Outcome)) → ((im jm : List ℕ) → Alike g n im jm → Both g NextFine (further im) (further jm))
+  both-read : (a : ℕ) → InData g a → (further : List ℕ → Plan (Try Stand Outcome))
+      → ((im jm : List ℕ) → Alike g n im jm → Both g NextFine (further im) (further jm))
       → (im jm : List ℕ) → Alike g n im jm → Both g NextFine (readPage g b a further im) (readPage g b a further jm)
   unfolding readPage onMet
   both-read a I further f im jm L =
@@ -66,7 +67,8 @@ module _ {g : Geometry} {n : ℕ} (S : Laid g n) (b : ℕ) where
       on (long k) v im jm L = record { one = refl; lies = tt; fine = tt }
       on (met x) v im jm L = record { one = refl; lies = tt; fine = v }
 
-  both-leave : (old : ℕ) (clears : Bool) (p : ℕ) → p < g .pages → (further : List ℕ → Plan (Try Stand Outcome)) → ((im jm : List ℕ) → Alike g n im jm → Both g NextFine (further im) (further jm))
+  both-leave : (old : ℕ) (clears : Bool) (p : ℕ) → p < g .pages → (further : List ℕ → Plan (Try Stand Outcome))
+      → ((im jm : List ℕ) → Alike g n im jm → Both g NextFine (further im) (further jm))
       → (im jm : List ℕ) → Alike g n im jm → Both g NextFine (leavePage g old clears p further im) (leavePage g old clears p further jm)
   unfolding leavePage
   both-leave old clears p h further f im jm L =
@@ -85,14 +87,17 @@ module _ {g : Geometry} {n : ℕ} (S : Laid g n) (b : ℕ) where
       let s : Stand = fromAddress (dataStart g (next g p)) in
       both-leave old clears p h (nextItem g b old clears k s) (both-next old clears k s (start-in S (next g p) (next-in g p h))) im jm L
 
-  both-on : (t : Try Unit ℕ) → Tried Any (λ p. p < g .pages) t → (im jm : List ℕ) → Alike g n im jm → Both g (OutPlaced g) (searchOn g b t im) (searchOn g b t jm)
+  both-on : (t : Try Unit ℕ) → Tried Any (λ p. p < g .pages) t → (im jm : List ℕ) → Alike g n im jm
+      → Both g (OutPlaced g) (searchOn g b t im) (searchOn g b t jm)
   unfolding searchOn nextStep
   both-on (fails u) h im jm L = record { one = refl; lies = tt; fine = tt }
   both-on (gives old) h im jm L =
       both-bind S NextFine im jm (λ t im₁. plan [] (settled spoilt t)) L
-      (both-steps S (StandIn g) (OutPlaced g) (nextStep g b old true) (both-next old true (2 * g .pages)) (fromAddress (dataStart g old)) (start-in S old h) im jm L) end
+      (both-steps S (StandIn g) (OutPlaced g) (nextStep g b old true) (both-next old true (2 * g .pages)) (fromAddress (dataStart g old))
+      (start-in S old h) im jm L) end
     where
-      end : (t : Try Stand Outcome) → NextFine t → (im jm : List ℕ) → Alike g n im jm → Both g (OutPlaced g) (plan [] (settled spoilt t)) (plan [] (settled spoilt t))
+      end : (t : Try Stand Outcome) → NextFine t → (im jm : List ℕ) → Alike g n im jm
+          → Both g (OutPlaced g) (plan [] (settled spoilt t)) (plan [] (settled spoilt t))
       end (fails s) v im jm L = record { one = refl; lies = tt; fine = tt }
       end (gives o) v im jm L = record { one = refl; lies = tt; fine = v }
 
@@ -107,11 +112,16 @@ module _ {g : Geometry} {n : ℕ} (S : Laid g n) (b : ℕ) where
 
   pub both-peek : (im jm : List ℕ) → Alike g n im jm → Both g Any (peek g im b) (peek g jm b)
   unfolding peek
-  both-peek im jm L = both-bind S (OutPlaced g) im jm (λ o im₁. plan [] (shownBy o)) L (both-search im jm L) (λ o v im jm L. record { one = refl; lies = tt; fine = tt })
+  both-peek im jm L = both-bind S (OutPlaced g) im jm (λ o im₁. plan [] (shownBy o)) L (both-search im jm L) (λ o v im jm L. record {
+    one = refl;
+    lies = tt;
+    fine = tt;
+  })
 
   pub both-pop : (im jm : List ℕ) → Alike g n im jm → Both g Any (pop g im b) (pop g jm b)
   unfolding pop
-  both-pop im jm L = both-bind S (OutPlaced g) im jm (λ o im₁. plan (popped g o) (shownBy o)) L (both-search im jm L) (λ o v im jm L. record { one = refl; lies = pops o v; fine = tt })
+  both-pop im jm L = both-bind S (OutPlaced g) im jm (λ o im₁. plan (popped g o) (shownBy o)) L (both-search im jm L)
+      (λ o v im jm L. record { one = refl; lies = pops o v; fine = tt })
     where
       pops : (o : Outcome) → OutPlaced g o → Each (Lies g) (popped g o)
       pops nothing v = tt

@@ -63,7 +63,8 @@ module _ {g : Geometry} {n : ℕ} (S : Laid g n) (im : List ℕ) (size : length 
 
   -- the oldest page is found in the image jm, which the events es leave
   searched-from : (jm : List ℕ) (es : List Event) → length jm ≡ n → Each (Clears g im) es → ((e : Event) → Clears g jm e → Clears g im e)
-      → (old : ℕ) → oldest g jm ≡ gives old → ((hs : List Head) → Way g im hs → onTheWay g jm old (from g old) ≡ hs) → (Fails (oldest g im) × Fails (oldest g (repaired g im)) → ⊥)
+      → (old : ℕ) → oldest g jm ≡ gives old → ((hs : List Head) → Way g im hs → onTheWay g jm old (from g old) ≡ hs)
+      → (Fails (oldest g im) × Fails (oldest g (repaired g im)) → ⊥)
       → Searched (plan (es ++ searchOn g b (gives old) jm .events) (searchOn g b (gives old) jm .answer))
   searched-from jm es l c back old e way not = record {
     goes = λ {hs} w. W .answered ∙ ap (λ (x : List Head). outcome (meet g b x)) (way hs w);
@@ -91,7 +92,8 @@ module _ {g : Geometry} {n : ℕ} (S : Laid g n) (im : List ℕ) (size : length 
 
   searched-mended : {u : Unit {0}} → oldest g im ≡ fails u → (old : ℕ) → oldest g (repaired g im) ≡ gives old
       → Searched (plan (repair g im ++ searchOn g b (gives old) (repaired g im) .events) (searchOn g b (gives old) (repaired g im) .answer))
-  searched-mended v old e = searched-from (repaired g im) (repair g im) (repaired-long S im size) repair-clears clears-before old e (λ hs w. by w) (λ k. fails-not (k .1) e)
+  searched-mended v old e = searched-from (repaired g im) (repair g im) (repaired-long S im size) repair-clears clears-before old e
+      (λ hs w. by w) (λ k. fails-not (k .1) e)
     where
       by : {hs : List Head} → Way g im hs → onTheWay g (repaired g im) old (from g old) ≡ hs
       by (direct f) = absurd (fails-not (is-fails v) f)
@@ -114,7 +116,8 @@ module _ {g : Geometry} {n : ℕ} (S : Laid g n) (im : List ℕ) (size : length 
   start-again : {u : Unit {0}} → oldest g im ≡ fails u → withRepair g (startStep g) tt im ≡ plan (repair g im) (oldest g (repaired g im))
   unfolding startStep
   start-again e =
-      steps-again g (startStep g) tt im (ap (λ (t : Try Unit ℕ). plan [] t) e) ∙ ap (λ (es : List Event). plan es (oldest g (repaired g im))) (append-nil (repair g im))
+      steps-again g (startStep g) tt im (ap (λ (t : Try Unit ℕ). plan [] t) e)
+      ∙ ap (λ (es : List Event). plan es (oldest g (repaired g im))) (append-nil (repair g im))
 
   searched : Searched (search g im b)
   unfolding search startStep bind imageAfter searchOn
@@ -134,12 +137,14 @@ module _ {g : Geometry} {n : ℕ} (S : Laid g n) (im : List ℕ) (size : length 
   module _ (more : Outcome → List Event) (none : more nothing ≡ []) (less : (k : ℕ) → more (short k) ≡ []) (lost : more spoilt ≡ []) where
     finished : (es : List Event) → Each (Clears g im) es → (fs : List Event) → fs ≡ [] → Each (Finished g im) (es ++ fs)
     finished es c fs e =
-        subst (λ (x : List Event). Each (Finished g im) x) (sym (ap (λ (x : List Event). es ++ x) e ∙ append-nil es)) (each-weaker (Clears g im) (Finished g im) (clears-finished g im) es c)
+        subst (λ (x : List Event). Each (Finished g im) x) (sym (ap (λ (x : List Event). es ++ x) e ∙ append-nil es))
+        (each-weaker (Clears g im) (Finished g im) (clears-finished g im) es c)
 
     of-outcome : (es : List Event) (o : Outcome) → Searched (plan es o) → OfSearch g im b (plan (es ++ more o) (shownBy o))
     of-outcome es o P = record {
       none = λ {hs} w. subst (λ (x : Outcome). Iff (shownBy x ≡ empty) (Each (Passed g b) hs)) (sym (P .goes w)) (row-none g b hs);
-      short = λ {hs} w k. subst (λ (x : Outcome). Iff (shownBy x ≡ refused (refusal.BufferTooSmall k)) (TooLong g b hs k)) (sym (P .goes w)) (row-short g b hs k);
+      short = λ {hs} w k. subst (λ (x : Outcome). Iff (shownBy x ≡ refused (refusal.BufferTooSmall k)) (TooLong g b hs k)) (sym (P .goes w))
+          (row-short g b hs k);
       seen = λ {hs} w k. subst (λ (x : Outcome). Iff (shownBy x ≡ shown k) (Seen g b hs k)) (sym (P .goes w)) (row-seen g b hs k);
       none-image = by-none o;
       short-image = by-short o;
@@ -148,7 +153,8 @@ module _ {g : Geometry} {n : ℕ} (S : Laid g n) (im : List ℕ) (size : length 
       otherwise = shows o;
     }
       where
-        shows : (x : Outcome) → (shownBy x ≡ empty → ⊥) → ((k : ℕ) → shownBy x ≡ refused (refusal.BufferTooSmall k) → ⊥) → (shownBy x ≡ refused refusal.Corrupted → ⊥)
+        shows : (x : Outcome) → (shownBy x ≡ empty → ⊥) → ((k : ℕ) → shownBy x ≡ refused (refusal.BufferTooSmall k) → ⊥)
+            → (shownBy x ≡ refused refusal.Corrupted → ⊥)
             → (k : ℕ) × (shownBy x ≡ shown k)
         shows nothing a b c = absurd (a refl)
         shows (short k) a b c = absurd (b k refl)

@@ -47,7 +47,8 @@ module _ (g : Geometry) (im : List ℕ) where
   unfolding oldest
   oldest-in s = on (youngest g im) (youngest-in s)
     where
-      on : (t : Try Unit ℕ) → Tried Any (λ p. p < g .pages) t → Tried Any (λ p. p < g .pages) (onGiven t (λ y. foundOr (first g im Closed (from g y)) (gives y)))
+      on : (t : Try Unit ℕ) → Tried Any (λ p. p < g .pages) t
+          → Tried Any (λ p. p < g .pages) (onGiven t (λ y. foundOr (first g im Closed (from g y)) (gives y)))
       on (fails u) h = tt
       on (gives y) h = or-in (first g im Closed (from g y)) (gives y) (first-in Closed (from g y) (from-in g y h)) h
 

@@ -39,7 +39,8 @@ module _ {g : Geometry} {n : ℕ} (S : Laid g n) (im : List ℕ) (b old : ℕ) (
       → Comes S im b old ho (onTheWay g im old (from g old)) im (nextStep g b old clears (fromAddress (dataStart g old)) im)
   unfolding nextStep from
   step-comes clears size e =
-      subst (λ (p : ℕ). Comes S im b old ho (onTheWay g im old (around g (g .pages) p)) im (nextItem g b old clears (2 * g .pages) (fromAddress (dataStart g p)) im))
+      subst (λ (p : ℕ). Comes S im b old ho (onTheWay g im old (around g (g .pages) p)) im
+      (nextItem g b old clears (2 * g .pages) (fromAddress (dataStart g p)) im))
       (turn-zero g old ho) (ways S im b old ho clears (g .pages) 0 (omega arith) im (begins size e))
 
   -- what is Corrupted later was so from the start

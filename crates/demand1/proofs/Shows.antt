@@ -56,7 +56,8 @@ lasts-front {g} {h} {im} b (later e {es} x) c buf l =
 -- ---- reading
 
 module _ (g : Geometry) (b : ℕ) where
-  heads-last : (hs : List Head) (im : List ℕ) → Each (Whole g im) hs → (h : Head) → readHeads g b hs im .answer ≡ met h → Lasts g h im (readHeads g b hs im .events)
+  heads-last : (hs : List Head) (im : List ℕ) → Each (Whole g im) hs → (h : Head) → readHeads g b hs im .answer ≡ met h
+      → Lasts g h im (readHeads g b hs im .events)
   unfolding readHeads bind imageAfter imageBy
   heads-last [] im w h e = never (cc)
   heads-last (x ∷ hs) im w h e = by (not (live x)) (ltb b (roundUp (g .word) (x .len))) (present x) e (heads-last hs im (w .1) h)
@@ -64,9 +65,13 @@ module _ (g : Geometry) (b : ℕ) where
       read : List Event
       read = copy (x .place + headerSize g) (roundUp (g .word) (x .len)) ∷ []
 
-      by : (s t u : Bool) → cond s (readHeads g b hs im) (cond t (plan [] (long (roundUp (g .word) (x .len)))) (cond u (plan read (met x)) (andThen g im read (readHeads g b hs)))) .answer ≡ met h
+      by : (s t u : Bool) → cond s (readHeads g b hs im)
+          (cond t (plan [] (long (roundUp (g .word) (x .len)))) (cond u (plan read (met x)) (andThen g im read (readHeads g b hs)))) .answer
+          ≡ met h
           → (readHeads g b hs im .answer ≡ met h → Lasts g h im (readHeads g b hs im .events))
-          → Lasts g h im (cond s (readHeads g b hs im) (cond t (plan [] (long (roundUp (g .word) (x .len)))) (cond u (plan read (met x)) (andThen g im read (readHeads g b hs)))) .events)
+          → Lasts g h im (cond s (readHeads g b hs im)
+          (cond t (plan [] (long (roundUp (g .word) (x .len))))
+          (cond u (plan read (met x)) (andThen g im read (readHeads g b hs)))) .events)
       by true t u e f = f e
       by false true u e f = never (cc)
       by false false true e f = let z : x ≡ h = cc in subst (λ (y : Head). Lasts g y im (plan {A = Met} read (met x) .events)) z (last (w .0) tt)
@@ -78,7 +83,8 @@ module _ (g : Geometry) (b : ℕ) where
   abbrev Ends : List ℕ → Plan (Try Stand Outcome) → Type 0
   Ends im p = (h : Head) → p .answer ≡ gives (this h) → Lasts g h im (p .events)
 
-  read-ends : (a : ℕ) (further : List ℕ → Plan (Try Stand Outcome)) → ((im : List ℕ) → Ends im (further im)) → (im : List ℕ) → Ends im (readPage g b a further im)
+  read-ends : (a : ℕ) (further : List ℕ → Plan (Try Stand Outcome)) → ((im : List ℕ) → Ends im (further im)) → (im : List ℕ)
+      → Ends im (readPage g b a further im)
   unfolding readPage bind onMet
   read-ends a further f im h = by (readHeads g b (walkOn g im a .heads) im .answer) refl
     where
@@ -130,7 +136,8 @@ module _ (g : Geometry) (b : ℕ) where
         i : List ℕ
         i = imageAfter g (step s im .events) im
 
-        by : (t : Try Stand Outcome) → step s im .answer ≡ t → retry g step t i .answer ≡ gives (this h) → Lasts g h im (step s im .events ++ retry g step t i .events)
+        by : (t : Try Stand Outcome) → step s im .answer ≡ t → retry g step t i .answer ≡ gives (this h)
+            → Lasts g h im (step s im .events ++ retry g step t i .events)
         by (gives o) q e = lasts-before [] tt (next-ends (2 * g .pages) s im h (q ∙ e))
         by (fails v) q e = lasts-behind es _ im (lasts-behind (repair g i) _ i (next-ends (2 * g .pages) v (imageAfter g (repair g i) i) h e))
 
@@ -151,7 +158,8 @@ module _ (g : Geometry) (b : ℕ) where
           s : Stand
           s = fromAddress (dataStart g old)
 
-          on : (t : Try Stand Outcome) → withRepair g (step old true) s i .answer ≡ t → settled spoilt t ≡ this h → Lasts g h i (withRepair g (step old true) s i .events ++ [])
+          on : (t : Try Stand Outcome) → withRepair g (step old true) s i .answer ≡ t → settled spoilt t ≡ this h
+              → Lasts g h i (withRepair g (step old true) s i .events ++ [])
           on (fails v) q e = never (cc)
           on (gives o) q e = lasts-before [] tt (steps-end old true s i h (q ∙ ap gives e))
 

@@ -36,4 +36,5 @@ module _ {W A : Type 0} (g : Geometry) (step : W → List ℕ → Plan (Try W A)
   unfolding imageAfter
   steps-again {v} e =
       steps-fails (ap (λ (p : Plan (Try W A)). p .answer) e)
-      ∙ ap (λ (p : Plan (Try W A)). let j = imageAfter g (p .events) im in plan (p .events ++ (repair g j ++ step v (repaired g j) .events)) (step v (repaired g j) .answer)) e
+      ∙ ap (λ (p : Plan (Try W A)). let j = imageAfter g (p .events) im in
+      plan (p .events ++ (repair g j ++ step v (repaired g j) .events)) (step v (repaired g j) .answer)) e

@@ -45,8 +45,14 @@ module _ (g : Geometry) (over : Bool) (y x : ℕ) (im : List ℕ) where
   turn-full Open e = never (cc)
   turn-full PartialOpen e = by (eqb x y) refl e
     where
-      by : (t : Bool) → eqb x y ≡ t → cond t (takePage g over y x im) (plan [] (fails tt)) .answer ≡ gives full → Turned PartialOpen (cond t (takePage g over y x im) (plan [] (fails tt)))
-      by true q e = let k = used-full over (anyLive (pageWalk g im x .heads)) _ _ e in record { off = k .0; alive = k .1; none = k .2; again = inr (eqb-true x y q) }
+      by : (t : Bool) → eqb x y ≡ t → cond t (takePage g over y x im) (plan [] (fails tt)) .answer ≡ gives full
+          → Turned PartialOpen (cond t (takePage g over y x im) (plan [] (fails tt)))
+      by true q e = let k = used-full over (anyLive (pageWalk g im x .heads)) _ _ e in record {
+        off = k .0;
+        alive = k .1;
+        none = k .2;
+        again = inr (eqb-true x y q);
+      }
       by false q e = never (cc)
   turn-full Closed e = let k = used-full over (anyLive (pageWalk g im x .heads)) _ _ e in record { off = k .0; alive = k .1; none = k .2; again = inl refl }
   turn-full Corrupted e = never (cc)
@@ -60,7 +66,8 @@ module _ (g : Geometry) (over : Bool) (y x : ℕ) (im : List ℕ) where
   turn-fails Open e = never (cc)
   turn-fails PartialOpen {u} e = by (eqb x y) refl e
     where
-      by : (t : Bool) → eqb x y ≡ t → cond t (takePage g over y x im) (plan [] (fails tt)) .answer ≡ fails u → Stuck PartialOpen (cond t (takePage g over y x im) (plan [] (fails tt)))
+      by : (t : Bool) → eqb x y ≡ t → cond t (takePage g over y x im) (plan [] (fails tt)) .answer ≡ fails u
+          → Stuck PartialOpen (cond t (takePage g over y x im) (plan [] (fails tt)))
       by true q e = absurd (used-gives over (anyLive (pageWalk g im x .heads)) _ _ e)
       by false q e = record { none = refl; because = inr (refl, eqb-false x y q) }
   turn-fails Closed e = absurd (used-gives over (anyLive (pageWalk g im x .heads)) _ _ e)

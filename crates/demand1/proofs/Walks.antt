@@ -27,7 +27,8 @@ unfolding headerSize
 header-low g low = round-up-ge (g .word) 8 low
 
 -- what serves a length serves it rounded up
-pub header-behind : (g : Geometry) → 0 < g .word → (r n : ℕ) → headerSize g + n ≤ roundDown (g .word) r → headerSize g + roundUp (g .word) n ≤ roundDown (g .word) r
+pub header-behind : (g : Geometry) → 0 < g .word → (r n : ℕ) → headerSize g + n ≤ roundDown (g .word) r
+    → headerSize g + roundUp (g .word) n ≤ roundDown (g .word) r
 unfolding headerSize
 header-behind g low r n k = round-up-behind (g .word) 8 n r low k
 
@@ -130,5 +131,6 @@ pub heads-placed : {g : Geometry} {n : ℕ} → Laid g n → (im : List ℕ) →
 unfolding walkOn
 heads-placed {g} S im long a I =
     let p : ℕ = pageOf g a in
-    each-weaker (Stands g a (dataEnd g p)) (Placed g) (λ x s. room-in S im long p (I .page) (x .place) (x .len) (s .aligned) (omega (arith, I .low, s .low)) (s .high))
+    each-weaker (Stands g a (dataEnd g p)) (Placed g)
+    (λ x s. room-in S im long p (I .page) (x .place) (x .len) (s .aligned) (omega (arith, I .low, s .low)) (s .high))
     (walkOn g im a .heads) (end-walked S im long p (I .page) a (I .aligned) (I .low) (I .high) .heads-stand)

@@ -42,7 +42,8 @@ module _ (g : Geometry) (b : ℕ) (hs : List Head) where
       back : TooLong g b hs k → shownBy (outcome (meet g b hs)) ≡ refused (refusal.BufferTooSmall k)
       back T =
           let l : b < roundUp (g .word) (T .head .len) = omega (arith, T .over, T .is) in
-          ap (λ (m : Met). shownBy (outcome m)) (stopped (T .head) (T .stops) (long (roundUp (g .word) (T .head .len))) (λ rest. meet-long g b (T .head) rest (T .alive) l))
+          ap (λ (m : Met). shownBy (outcome m))
+          (stopped (T .head) (T .stops) (long (roundUp (g .word) (T .head .len))) (λ rest. meet-long g b (T .head) rest (T .alive) l))
           ∙ ap (λ (x : ℕ). refused (refusal.BufferTooSmall x)) (sym (T .is))
 
   pub seen-meet : {k : ℕ} (seen : Seen g b hs k) → meet g b hs ≡ met (seen .head)

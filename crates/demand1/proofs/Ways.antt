@@ -128,14 +128,21 @@ module _ {g : Geometry} {n : ℕ} (S : Laid g n) (im : List ℕ) (b old : ℕ) (
   abbrev stops : List ℕ → ℕ → Bool
   stops jm q = same (state g jm q) Open || same (state g jm q) Corrupted || eqb q old
 
-  come-leave : (clears : Bool) (p : ℕ) (h : p < g .pages) (cur : List ℕ) (further : List ℕ → Plan (Try Stand Outcome)) (later : List Head) → Known cur → Next cur (next g p)
+  come-leave : (clears : Bool) (p : ℕ) (h : p < g .pages) (cur : List ℕ) (further : List ℕ → Plan (Try Stand Outcome)) (later : List Head)
+      → Known cur → Next cur (next g p)
       → (clears ≡ true → payloads (pageWalk g im p .heads) ≡ []) → (let i = imageAfter g (left clears p) cur in Comes later i (further i))
       → Comes (cond (stops im (next g p)) [] later) cur (leavePage g old clears p further cur)
   unfolding leavePage meet bind imageAfter
   come-leave clears p h cur further later K (round e c) none C =
-      rw (c, eq-eqb (next g p) old e, or-true (same (state g im (next g p)) Open || same (state g im (next g p)) Corrupted), or-true (same (state g cur (next g p)) Open))
+      rw (
+        c,
+        eq-eqb (next g p) old e,
+        or-true (same (state g im (next g p)) Open || same (state g im (next g p)) Corrupted),
+        or-true (same (state g cur (next g p)) Open),
+      )
       (record { clears = tt; came = ends refl })
-  come-leave clears p h cur further later K (onward e) none C = rw e (by (same (state g im (next g p)) Open) (same (state g im (next g p)) Corrupted) (eqb (next g p) old) refl)
+  come-leave clears p h cur further later K (onward e) none C =
+      rw e (by (same (state g im (next g p)) Open) (same (state g im (next g p)) Corrupted) (eqb (next g p) old) refl)
     where
       quiet : Known (imageAfter g [] cur)
       quiet = K
@@ -151,12 +158,17 @@ module _ {g : Geometry} {n : ℕ} (S : Laid g n) (im : List ℕ) (b old : ℕ) (
       turned (stuck q k a m s K) = let z = image-append g es (further i .events) cur in stuck q k a m (rw z s) (rw z K)
 
       by : (o c r : Bool) → same (state g im (next g p)) Corrupted ≡ c
-          → Comes (cond (o || c || r) [] later) cur (cond c (plan [] (fails (afterPage p))) (cond (o || r) (plan [] (gives nothing)) (andThen g cur es further)))
+          → Comes (cond (o || c || r) [] later) cur
+          (cond c (plan [] (fails (afterPage p))) (cond (o || r) (plan [] (gives nothing)) (andThen g cur es further)))
       by true true r q = record { clears = tt; came = stuck p h refl refl (e ∙ same-is (state g im (next g p)) Corrupted q) quiet }
       by false true r q = record { clears = tt; came = stuck p h refl refl (e ∙ same-is (state g im (next g p)) Corrupted q) quiet }
       by true false r q = record { clears = tt; came = ends refl }
       by false false true q = record { clears = tt; came = ends refl }
-      by false false false q = record { clears = each-append (Clears g im) es (further i .events) (left-does g (Clears g im) clears p (λ t. (h, inr (none t)))) (C .clears); came = turned (C .came) }
+      by false false false q = record {
+        clears =
+            each-append (Clears g im) es (further i .events) (left-does g (Clears g im) clears p (λ t. (h, inr (none t)))) (C .clears);
+        came = turned (C .came);
+      }
 
   -- ---- reading a page
 
@@ -175,14 +187,16 @@ module _ {g : Geometry} {n : ℕ} (S : Laid g n) (im : List ℕ) (b old : ℕ) (
     done : Each (Clears g im) reads
     done = each-weaker Copied (Clears g im) (copied-clears g im) reads copies
 
-    bound : (m : Met) → meet g b hs ≡ m → bind g cur (readHeads g b hs cur) (onMet further) ≡ plan (reads ++ onMet further m cur .events) (onMet further m cur .answer)
+    bound : (m : Met) → meet g b hs ≡ m
+        → bind g cur (readHeads g b hs cur) (onMet further) ≡ plan (reads ++ onMet further m cur .events) (onMet further m cur .answer)
     unfolding bind
     bound m q = rw (meets g b hs cur, q, copied-image g reads cur copies)
 
     joined : (later : List Head) (m : Met) → meet g b hs ≡ m → meet g b (hs ++ later) ≡ thenMeet m (meet g b later)
     joined later m q = meet-append g b hs later ∙ ap (λ (x : Met). thenMeet x (meet g b later)) q
 
-    come-heads : (later : List Head) → (payloads hs ≡ [] → Comes later cur (further cur)) → Comes (hs ++ later) cur (bind g cur (readHeads g b hs cur) (onMet further))
+    come-heads : (later : List Head) → (payloads hs ≡ [] → Comes later cur (further cur))
+        → Comes (hs ++ later) cur (bind g cur (readHeads g b hs cur) (onMet further))
     unfolding onMet
     come-heads later f = by (meet g b hs) refl
       where
@@ -196,7 +210,10 @@ module _ {g : Geometry} {n : ℕ} (S : Laid g n) (im : List ℕ) (b old : ℕ) (
         by : (m : Met) → meet g b hs ≡ m → Comes (hs ++ later) cur (bind g cur (readHeads g b hs cur) (onMet further))
         by passed q =
             let C = f (none-present hs (meet-is g b hs) q) in
-            subst (Comes (hs ++ later) cur) (sym (bound passed q)) (record { clears = each-append (Clears g im) reads (further cur .events) done (C .clears); came = come q (C .came) })
+            subst (Comes (hs ++ later) cur) (sym (bound passed q)) (record {
+              clears = each-append (Clears g im) reads (further cur .events) done (C .clears);
+              came = come q (C .came);
+            })
         by (long k) q = subst (Comes (hs ++ later) cur) (sym (bound (long k) q))
             (record { clears = each-append (Clears g im) reads [] done tt; came = ends (ap (λ (m : Met). gives (outcome m)) (sym (joined later (long k) q))) })
         by (met h) q = subst (Comes (hs ++ later) cur) (sym (bound (met h) q))
@@ -229,5 +246,6 @@ module _ {g : Geometry} {n : ℕ} (S : Laid g n) (im : List ℕ) (b old : ℕ) (
         let z : 2 * suc k ≡ suc (suc (2 * k)) = omega arith in
         let w = walk-on-start g (inner S) im p in
         rw (z, ← w)
-        (come-page (2 * k) k i e cur A (dataStart g p) (start-in S p (turn-lt g old i ho (omega arith))) (page-of-start g (inner S) p) (λ t none. rw (← w) none) _
+        (come-page (2 * k) k i e cur A (dataStart g p) (start-in S p (turn-lt g old i ho (omega arith))) (page-of-start g (inner S) p)
+        (λ t none. rw (← w) none) _
         (λ cur A. rw (next-turn g old i ho (omega arith)) (ways k (suc i) (omega arith) cur A)))

@@ -42,7 +42,8 @@ module _ {g : Geometry} {n : ℕ} (S : Laid g n) where
         words-lie k (a + g .word) (drop (g .word) bytes) (dvd-add (g .word) v (dvd-refl (g .word))) (omega arith) (omega arith),
       )
 
-  writes-lie : (a : ℕ) (bytes : List ℕ) → g .word ∣ a → g .start ≤ a → a + roundUp (g .word) (length bytes) ≤ pageStart g (g .pages) → Each (Lies g) (writes g a bytes)
+  writes-lie : (a : ℕ) (bytes : List ℕ) → g .word ∣ a → g .start ≤ a → a + roundUp (g .word) (length bytes) ≤ pageStart g (g .pages)
+      → Each (Lies g) (writes g a bytes)
   unfolding writes roundUp
   writes-lie a bytes v l h = words-lie (wordsFor (g .word) (length bytes)) a bytes v l h
 

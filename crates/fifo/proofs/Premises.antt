@@ -14,5 +14,10 @@ use Rattle.paper.specs.Fifo.{planOf, eventsOf, imageNext}
 use Rattle.fifo.specs.Premises.{sheet, blankSheet, halfHeader, unlucky, ambiguous, PremisesNeeded}
 
 pub premises-needed : PremisesNeeded
-unfolding sheet blankSheet halfHeader unlucky ambiguous ones onesIn _⊕_ times modulo dataCrc lengthCrc crcOf dividend message mirror dataAdjusted lengthAdjusted dataPoly lengthPoly wordsFor roundUp roundDown headerSize pageStart dataStart dataSize dataEnd pageBytes pageData put ands imageBy imageAfter storeCount before words writes erasePage bind bytesOf numberOf encode blank decode look onward walk pageWalk freeSpot serves live anyLive present payloads zeroBits isSet startMark endMark state setStart setEnd next around from allPages first youngest oldest retry withRepair tooBig takePage turnPage findSpot spotOn spotStep spotFor itemAt pushAt push allowedWord pageCount rules geometryOf judge check waitingOn waiting planOf eventsOf imageNext
+unfolding sheet blankSheet halfHeader unlucky ambiguous ones onesIn _⊕_ times modulo dataCrc lengthCrc crcOf dividend message mirror
+    dataAdjusted lengthAdjusted dataPoly lengthPoly wordsFor roundUp roundDown headerSize pageStart dataStart dataSize dataEnd pageBytes
+    pageData put ands imageBy imageAfter storeCount before words writes erasePage bind bytesOf numberOf encode blank decode look onward walk
+    pageWalk freeSpot serves live anyLive present payloads zeroBits isSet startMark endMark state setStart setEnd next around from allPages
+    first youngest oldest retry withRepair tooBig takePage turnPage findSpot spotOn spotStep spotFor itemAt pushAt push allowedWord
+    pageCount rules geometryOf judge check waitingOn waiting planOf eventsOf imageNext
 premises-needed = record { accepted = refl; said = refl; lost = refl; altered = refl }

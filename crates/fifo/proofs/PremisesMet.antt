@@ -169,7 +169,13 @@ unfolding strip blankStrip pageBytes pageStart
 all-blank p hp = let zero-page : p ≡ 0 = omega arith in rw zero-page
 
 pub premises-met : PremisesMet
-unfolding strip blankStrip mishaps imageOf ghostOf listsOf readHeads onMet readPage nextItem nextStep startStep searchOn search pop headerPlan headerAt kept refusals ghostNext ones onesIn _⊕_ times modulo dataCrc lengthCrc crcOf dividend message mirror dataAdjusted lengthAdjusted dataPoly lengthPoly wordsFor roundUp roundDown headerSize pageStart dataStart dataSize dataEnd pageOf pageBytes pageData put ands imageBy imageAfter storeCount before words writes bind bytesOf numberOf encode blank decode look onward walk pageWalk walkOn freeSpot serves live anyLive present payloads zeroBits isSet startMark endMark state setStart next around from allPages first youngest oldest retry withRepair tooBig findSpot spotOn spotStep spotFor itemAt pushAt push allowedWord pageCount rules geometryOf judge check waitingOn waiting planOf eventsOf imageNext allFairly fairly counts small clear away stands differs
+unfolding strip blankStrip mishaps imageOf ghostOf listsOf readHeads onMet readPage nextItem nextStep startStep searchOn search pop
+    headerPlan headerAt kept refusals ghostNext ones onesIn _⊕_ times modulo dataCrc lengthCrc crcOf dividend message mirror dataAdjusted
+    lengthAdjusted dataPoly lengthPoly wordsFor roundUp roundDown headerSize pageStart dataStart dataSize dataEnd pageOf pageBytes pageData
+    put ands imageBy imageAfter storeCount before words writes bind bytesOf numberOf encode blank decode look onward walk pageWalk walkOn
+    freeSpot serves live anyLive present payloads zeroBits isSet startMark endMark state setStart next around from allPages first youngest
+    oldest retry withRepair tooBig findSpot spotOn spotStep spotFor itemAt pushAt push allowedWord pageCount rules geometryOf judge check
+    waitingOn waiting planOf eventsOf imageNext allFairly fairly counts small clear away stands differs
 premises-met =
     let fair = all-fairly-holds strip blankStrip noGhost mishaps refl refl in
     record {

@@ -64,7 +64,8 @@ module _ (g : Geometry) (pos : 0 < g .word) (x : List ℕ) (n : ℕ) (H : Headin
       ∙ ap (ands x) (take-append-add zeros4 Q (m - 4))
       ∙ ands-append x zeros4 (take (m - 4) Q) (omega (arith, h8))
       ∙ ap₂ (λ (a b : List ℕ). a ++ b) (ands-zeros x 4 (omega (arith, h8)))
-      (ands-kept y 4 (headerSize g - 8) (m - 4) (omega (arith, h8)) (omega (arith, h8, length-drop 4 x)) (rw e (bytes-part 4 (headerSize g - 4) (omega (arith, h8)))))
+      (ands-kept y 4 (headerSize g - 8) (m - 4) (omega (arith, h8)) (omega (arith, h8, length-drop 4 x))
+      (rw e (bytes-part 4 (headerSize g - 4) (omega (arith, h8)))))
 
 module _ (g : Geometry) (im : List ℕ) (pos : 0 < g .word) (a n : ℕ) (fits : a + headerSize g ≤ length im) (H : Heading g (drop a im) n) where
   zeroed : (m : ℕ) → 4 ≤ m → m ≤ headerSize g → put a (ands (drop a im) (take m (encode g 0 n))) im ≡ put a zeros4 im

@@ -89,7 +89,8 @@ module _ (n : ℕ) (s : Shape) where
       let whole : s .word ∣ s .page = divides (s .page) (s .word) (a .1) in
       let start : s .page ∣ s .start = divides (s .start) (s .page) (k .1 .0) in
       let end : s .page ∣ s .end = divides (s .end) (s .page) (k .1 .1 .0) in
-      let exact : (s .end - s .start) / s .page * s .page ≡ s .end - s .start = div-mul-cancel (s .page) {m = s .end - s .start} (dvd-sub (s .page) end start) in
+      let exact : (s .end - s .start) / s .page * s .page ≡ s .end - s .start =
+      div-mul-cancel (s .page) {m = s .end - s .start} (dvd-sub (s .page) end start) in
       record {
         laid = record {
           word = word;

@@ -15,7 +15,8 @@ use Rattle.chip.proofs.Binding.{showed-kept}
 use Rattle.peek.specs.Searching.{Stored}
 
 -- the step stores nothing; r was spent before it
-start-showed : (g : Geometry) (r : Spent) (im d : List ℕ) {x : Try Unit ℕ} → r .cut ≡ false → x ≡ oldest g im → Showed g (r .budget) (startStep g tt im) im im d d r x
+start-showed : (g : Geometry) (r : Spent) (im d : List ℕ) {x : Try Unit ℕ} → r .cut ≡ false → x ≡ oldest g im
+    → Showed g (r .budget) (startStep g tt im) im im d d r x
 unfolding startStep
 start-showed g r im d {x} t e = rw (← e) (showed-kept g r im d x t)
 

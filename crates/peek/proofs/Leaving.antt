@@ -19,7 +19,8 @@ use Rattle.peek.specs.Turns.{Going, goes, ends, leaveTurn}
 use Rattle.peek.specs.Searching.{Stored}
 
 -- page p is left; x is the page that follows, and s its state
-module _ (g : Geometry) (b : Budget) (im : List ℕ) (old : ℕ) (clears : Bool) (p : ℕ) {x : ℕ} (follows : x ≡ next g p) {s : PageState} (is : s ≡ state g im x) where
+module _ (g : Geometry) (b : Budget) (im : List ℕ) (old : ℕ) (clears : Bool) (p : ℕ) {x : ℕ} (follows : x ≡ next g p) {s : PageState}
+    (is : s ≡ state g im x) where
   there : s ≡ state g im (next g p)
   there = is ∙ ap (state g im) follows
 
@@ -50,5 +51,6 @@ module _ (g : Geometry) (b : Budget) (im : List ℕ) (old : ℕ) (clears : Bool)
         pub leave-kept : clears ≡ false → Keeps (goes (fromAddress a))
         leave-kept e d = rw (goes-on, e) (showed-none g b im _ d)
 
-        pub leave-erased : clears ≡ true → {o : List ℕ} {r : Spent} → Did g b (erasePage g p) im o r → Stored g b (leaveTurn g old clears p im) im o r (goes (fromAddress a))
+        pub leave-erased : clears ≡ true → {o : List ℕ} {r : Spent} → Did g b (erasePage g p) im o r
+            → Stored g b (leaveTurn g old clears p im) im o r (goes (fromAddress a))
         leave-erased e k d = rw (goes-on, e) (showed-plan (goes (fromAddress a)) (acted-quiet d (erase-quiet g p) k))

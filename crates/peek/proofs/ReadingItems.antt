@@ -52,7 +52,9 @@ small-copies : (g : Geometry) (n : ℕ) (h : Head) (x : Item) (k : ℕ) → x .s
 unfolding readAs copies
 small-copies g n h x k e q = by (live h) (ltb n (x .size)) (present h) refl q
   where
-    by : (s t u : Bool) → ltb n (x .size) ≡ t → cond (not s) (maybe.Erased x) (cond t (maybe.TooSmall (x .size)) (cond u (maybe.Present x) (maybe.Corrupted x))) ≡ maybe.TooSmall k
+    by : (s t u : Bool) → ltb n (x .size) ≡ t
+        → cond (not s) (maybe.Erased x) (cond t (maybe.TooSmall (x .size)) (cond u (maybe.Present x) (maybe.Corrupted x)))
+        ≡ maybe.TooSmall k
         → cond (s && leb (roundUp (g .word) (h .len)) n) (copy (h .place + headerSize g) (roundUp (g .word) (h .len)) ∷ []) [] ≡ []
     by false t u l f = refl
     by true true u l f = rw (← e, lt-leb (x .size) n (ltb-true n (x .size) l))
@@ -82,7 +84,8 @@ module _ (g : Geometry) (im : List ℕ) (end n : ℕ) where
   first-in i top r = record { good = i .good; fits = omega (arith, r .fits, i .ends); top = omega (arith, r .fits) }
 
   -- item x is the first of them; reading it took the buffer from d to e and answered m
-  module _ (a : ℕ) (x : Item) (first : Reaches g im end a x) (d e : List ℕ) (size : length d ≡ n) (m : MaybeItem) (read : ReadIs g im (x .address) (x .header) d e m) where
+  module _ (a : ℕ) (x : Item) (first : Reaches g im end a x) (d e : List ℕ) (size : length d ≡ n) (m : MaybeItem)
+      (read : ReadIs g im (x .address) (x .header) d e m) where
     answered : m ≡ readAs n (headOf g im x) (itemOf g (x .address) (x .header))
     answered = rw size at (read .answer)
 
@@ -103,14 +106,16 @@ module _ (g : Geometry) (im : List ℕ) (end n : ℕ) where
     pub present-read : (y : Item) → m ≡ maybe.Present y → Copied g (reading g im end n a) im d e (met (headOf g im x))
     present-read y q b = rw (first-read _ q) (showed-plan (met (headOf g im x)) (copied b))
 
-    pub torn-read : (y : Item) → m ≡ maybe.Corrupted y → {f : List ℕ} {r : Met} → Copied g (reading g im end n (behind g x)) im e f r → Copied g (reading g im end n a) im d f r
+    pub torn-read : (y : Item) → m ≡ maybe.Corrupted y → {f : List ℕ} {r : Met} → Copied g (reading g im end n (behind g x)) im e f r
+        → Copied g (reading g im end n a) im d f r
     torn-read y q v b =
         let w = by-lives (behind g x) _ refl in
         rw (first-read _ q) (showed-and-then (readHeads g n (lives (walkFrom g im end (behind g x) .heads))) (copied b) refl (rw (← w) (v b)))
 
 -- ---- those of what is left of a page
 
-pub page-read : (g : Geometry) (im : List ℕ) (a n : ℕ) {p end : ℕ} {d e : List ℕ} {x : Met} (y : Met) → p ≡ pageOf g a → end ≡ dataEnd g p → Copied g (reading g im end n a) im d e x → x ≡ y
+pub page-read : (g : Geometry) (im : List ℕ) (a n : ℕ) {p end : ℕ} {d e : List ℕ} {x : Met} (y : Met) → p ≡ pageOf g a → end ≡ dataEnd g p
+    → Copied g (reading g im end n a) im d e x → x ≡ y
     → Copied g (readTurn g n a im) im d e (afterItems p y)
 unfolding readTurn walkOn
 page-read g im a n {p} y ep ee v q b = rw (← ep, ← ee, ← q) (showed-turned (afterItems p) (v b))

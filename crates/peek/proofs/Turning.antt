@@ -32,11 +32,15 @@ module _ (g : Geometry) (further : Stand → List ℕ → Plan (Try Stand Outcom
       by (long k) im₁ = refl
       by (met h) im₁ = refl
 
-  leave-on : (old : ℕ) (clears : Bool) (p : ℕ) → leavePage g old clears p (further (fromAddress (dataStart g (next g p)))) im ≡ bind g im (leaveTurn g old clears p im) (onGoing further)
+  leave-on : (old : ℕ) (clears : Bool) (p : ℕ)
+      → leavePage g old clears p (further (fromAddress (dataStart g (next g p)))) im ≡ bind g im (leaveTurn g old clears p im)
+      (onGoing further)
   unfolding leavePage leaveTurn bind
-  leave-on old clears p = by (same (state g im (next g p)) Corrupted) (same (state g im (next g p)) Open || eqb (next g p) old) (cond clears (erasePage g p) []) (fromAddress (dataStart g (next g p)))
+  leave-on old clears p = by (same (state g im (next g p)) Corrupted) (same (state g im (next g p)) Open || eqb (next g p) old)
+      (cond clears (erasePage g p) []) (fromAddress (dataStart g (next g p)))
     where
-      by : (s t : Bool) (es : List Event) (on : Stand) → cond s (plan [] (fails (afterPage p))) (cond t (plan [] (gives nothing)) (andThen g im es (further on)))
+      by : (s t : Bool) (es : List Event) (on : Stand)
+          → cond s (plan [] (fails (afterPage p))) (cond t (plan [] (gives nothing)) (andThen g im es (further on)))
           ≡ bind g im (cond s (plan [] (ends (fails (afterPage p)))) (cond t (plan [] (ends (gives nothing))) (plan es (goes on)))) (onGoing further)
       by true t es on = refl
       by false true es on = refl
@@ -51,16 +55,19 @@ next-turn g n old clears k (afterPage p) im = leave-on g (nextItem g n old clear
 -- ---- a turn of the loop
 
 -- no turn is left
-pub turns-over : (g : Geometry) (b : Budget) (n old : ℕ) (clears : Bool) (s : Stand) (im d : List ℕ) → Showed g b (nextItem g n old clears 0 s im) im im d d (record { cut = false; budget = b }) (gives nothing)
+pub turns-over : (g : Geometry) (b : Budget) (n old : ℕ) (clears : Bool) (s : Stand) (im d : List ℕ)
+    → Showed g b (nextItem g n old clears 0 s im) im im d d (record { cut = false; budget = b }) (gives nothing)
 unfolding nextItem
 turns-over g b n old clears s im d = showed-none g b im (gives nothing) d
 
 -- of k turns the first is taken, on a buffer of n bytes
-module _ {g : Geometry} {b : Budget} (old : ℕ) (clears : Bool) (s : Stand) {i o d e : List ℕ} {r : Spent} {x : Going} (h : Showed g b (turnFrom g (length d) old clears s i) i o d e r x) (n k : ℕ) (some : 0 < k) (size : length d ≡ n) where
+module _ {g : Geometry} {b : Budget} (old : ℕ) (clears : Bool) (s : Stand) {i o d e : List ℕ} {r : Spent} {x : Going}
+    (h : Showed g b (turnFrom g (length d) old clears s i) i o d e r x) (n k : ℕ) (some : 0 < k) (size : length d ≡ n) where
   whole : nextItem g n old clears k s i ≡ bind g i (turnFrom g (length d) old clears s i) (onGoing (nextItem g n old clears (k - 1)))
   whole =
       let z : k ≡ suc (k - 1) = omega arith in
-      ap (λ (j : ℕ). nextItem g n old clears j s i) z ∙ next-turn g n old clears (k - 1) s i ∙ ap (λ (l : ℕ). bind g i (turnFrom g l old clears s i) (onGoing (nextItem g n old clears (k - 1)))) (sym size)
+      ap (λ (j : ℕ). nextItem g n old clears j s i) z ∙ next-turn g n old clears (k - 1) s i
+      ∙ ap (λ (l : ℕ). bind g i (turnFrom g l old clears s i) (onGoing (nextItem g n old clears (k - 1)))) (sym size)
 
   pub turn-cut : (y : Try Stand Outcome) → r .cut ≡ true → Showed g b (nextItem g n old clears k s i) i o d e r y
   turn-cut y t = rw whole (showed-bind-cut (onGoing (nextItem g n old clears (k - 1))) h y t)
@@ -69,6 +76,7 @@ module _ {g : Geometry} {b : Budget} (old : ℕ) (clears : Bool) (s : Stand) {i 
     pub turn-ends : (y : Try Stand Outcome) → x ≡ ends y → Showed g b (nextItem g n old clears k s i) i o d e r y
     turn-ends y q = rw whole (showed-bind-then (onGoing (nextItem g n old clears (k - 1))) h t (rw q (showed-kept g r o e y t)))
 
-    pub turn-goes : (next : Stand) → x ≡ goes next → {m f : List ℕ} {z : Spent} {y : Try Stand Outcome} → Showed g (r .budget) (nextItem g n old clears (k - 1) next o) o m e f z y
+    pub turn-goes : (next : Stand) → x ≡ goes next → {m f : List ℕ} {z : Spent} {y : Try Stand Outcome}
+        → Showed g (r .budget) (nextItem g n old clears (k - 1) next o) o m e f z y
         → Showed g b (nextItem g n old clears k s i) i m d f z y
     turn-goes next q v = rw whole (showed-bind-then (onGoing (nextItem g n old clears (k - 1))) h t (rw q v))

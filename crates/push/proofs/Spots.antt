@@ -64,7 +64,10 @@ turn-holds g over y x im s n (tried.At a) l e = rw (turn-only g over y x im (a .
 
 module _ (g : Geometry) (b : Budget) (n : ℕ) (over : Bool) (y : ℕ) (im : List ℕ) (w : Within g (length im)) (h : y < g .pages)
     (s : onPage.Spot) (is : SpotIs g (pageWalk g im y) (dataEnd g y) n s) where
-  pub found-here : (a : Address) → s ≡ spot.At a → Finds g b n (findSpot g n over y im) im im (record { spent = record { cut = false; budget = b }; answer = tried.At a })
+  pub found-here : (a : Address) → s ≡ spot.At a → Finds g b n (findSpot g n over y im) im im (record {
+    spent = record { cut = false; budget = b };
+    answer = tried.At a;
+  })
   unfolding findSpot freeSpot
   found-here a e =
       let v : Served g (pageWalk g im y) (dataEnd g y) n a = subst (SpotIs g (pageWalk g im y) (dataEnd g y) n) e is in
@@ -77,7 +80,10 @@ module _ (g : Geometry) (b : Budget) (n : ℕ) (over : Bool) (y : ℕ) (im : Lis
   unfolding findSpot
   found-next e small {o} {r} t =
       let f = fresh-in g n small w (next-in g y h) in
-      record { ran = (rw (subst (SpotIs g (pageWalk g im y) (dataEnd g y) n) e is) t); holds = λ z. turn-holds g over y (next g y) im _ n (r .answer) f (t .says z) }
+      record {
+        ran = (rw (subst (SpotIs g (pageWalk g im y) (dataEnd g y) n) e is) t);
+        holds = λ z. turn-holds g over y (next g y) im _ n (r .answer) f (t .says z);
+      }
 
 -- ---- where it ended
 

@@ -17,20 +17,22 @@ returns c = record { plain = _; crc = c .before .crc32 .ensures; answer = simp (
 returns-2 : tie.Need-returns-2
 unfolding dataAdjusted _⊕_
 returns-2 c =
+    let if1 = c .before .if1 in
     record {
       plain = _;
       crc = c .before .before .crc32 .ensures;
       answer =
-          ⊎-elim (λ w. simp (ne-eqb _ _ (c .before .if1 .left), eq-eqb _ _ (w .taken)))
-          (λ w. simp (ne-eqb _ _ (c .before .if1 .left), ne-eqb _ _ (w .0 .left), w .1 .taken)) (c .if2 .came);
+          ⊎-elim (λ w. simp (ne-eqb _ _ (if1 .left), eq-eqb _ _ (w .taken)))
+          (λ w. simp (ne-eqb _ _ (if1 .left), ne-eqb _ _ (w .0 .left), w .1 .taken)) (c .if2 .came);
     }
 
 returns-3 : tie.Need-returns-3
 unfolding dataAdjusted
 returns-3 c =
+    let crc32 = c .before .before .before .crc32 in
     record {
       plain = _;
-      crc = c .before .before .before .crc32 .ensures;
+      crc = crc32 .ensures;
       answer = simp (ne-eqb _ _ (c .before .before .if1 .left), ne-eqb _ _ (c .before .if2 .left), c .if3 .left);
     }
 

@@ -12,7 +12,11 @@ mul-t3 c = omega (arith, page-in (c .before .before .args .g) (c .before .before
 
 add-t4 : tie.Need-add-t4
 unfolding pageStart
-add-t4 c = omega (arith, page-in (c .before .before .before .args .g) (c .before .before .before .args .p .0) (c .before .before .before .pre .1))
+add-t4 c =
+    let args-g = c .before .before .before .args .g in
+    let args-p-0 = c .before .before .before .args .p .0 in
+    let pre-1 = c .before .before .before .pre .1 in
+    omega (arith, page-in args-g args-p-0 pre-1)
 
 returns : tie.Need-returns
 unfolding pageStart

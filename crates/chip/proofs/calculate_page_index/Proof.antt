@@ -14,7 +14,9 @@ div-t4 c = omega arith
 
 returns : tie.Need-returns
 unfolding pageOf pageStart
-returns c = (refl, div-lt-iff-lt-mul {k = c .before .before .before .args .g .page} (omega arith) .1 (omega arith))
+returns c =
+    let args-g-page = c .before .before .before .args .g .page in
+    (refl, div-lt-iff-lt-mul {k = args-g-page} (omega arith) .1 (omega arith))
 
 pub calculate-page-index-spec : {M : Type 1} → statement M
 calculate-page-index-spec =

@@ -23,7 +23,9 @@ cast-if2 c =
 
 returns : tie.Need-returns
 unfolding rules pageCount
-returns c = refuses (c .before .before .before .before .args .s) _ _ (⊎-elim (λ w. simp (lt-ltb _ _ (w .taken))) (λ w. simp (le-ltb _ _ (w .0 .left), w .1 .taken)) (c .if1 .came))
+returns c =
+    let args = c .before .before .before .before .args in
+    refuses (args .s) _ _ (⊎-elim (λ w. simp (lt-ltb _ _ (w .taken))) (λ w. simp (le-ltb _ _ (w .0 .left), w .1 .taken)) (c .if1 .came))
 
 cast-if3 : tie.Need-cast-if3
 cast-if3 c = omega arith
@@ -32,13 +34,15 @@ returns-2 : tie.Need-returns-2
 unfolding rules pageCount
 returns-2 c =
     let s = c .before .before .before .before .before .before .before .args .s in
-    refuses s _ _ (lt-ltb _ _ (c .if3 .taken)) ∙ passes s _ _ (simp (le-ltb _ _ (c .before .before .before .if1 .left), c .before .before .if2 .left))
+    let if1 = c .before .before .before .if1 in
+    refuses s _ _ (lt-ltb _ _ (c .if3 .taken)) ∙ passes s _ _ (simp (le-ltb _ _ (if1 .left), c .before .before .if2 .left))
 
 returns-3 : tie.Need-returns-3
 unfolding rules geometryOf pageCount
 returns-3 c =
     let s = c .before .before .before .before .before .before .before .args .s in
-    accepts s ∙ passes s _ _ (le-ltb _ _ (c .if3 .left)) ∙ passes s _ _ (simp (le-ltb _ _ (c .before .before .before .if1 .left), c .before .before .if2 .left))
+    let if1 = c .before .before .before .if1 in
+    accepts s ∙ passes s _ _ (le-ltb _ _ (c .if3 .left)) ∙ passes s _ _ (simp (le-ltb _ _ (if1 .left), c .before .before .if2 .left))
 
 pub check-limits-spec : {M : Type 1} → statement M
 check-limits-spec =

@@ -24,7 +24,9 @@ add-if1 c = omega arith
 
 returns : tie.Need-returns
 unfolding rules
-returns c = refuses (c .before .before .before .before .args .s) _ _ (rw (← c .before .round-up .ensures .answer) (lt-ltb _ _ (c .if1 .taken)))
+returns c =
+    let args = c .before .before .before .before .args in
+    refuses (args .s) _ _ (rw (← c .before .round-up .ensures .answer) (lt-ltb _ _ (c .if1 .taken)))
 
 returns-2 : tie.Need-returns-2
 unfolding rules
@@ -39,7 +41,10 @@ returns-3 : tie.Need-returns-3
 unfolding rules
 returns-3 c =
     let s = c .before .before .before .before .before .before .before .args .s in
-    refuses s _ _ (rw (← c .before .is-allowed-word .ensures) (c .if3 .taken)) ∙ passes s _ _ (le-ltb _ _ (c .before .before .if2 .left)) ∙ passes s _ _ (rw (← c .before .before .before .before .round-up .ensures .answer) (le-ltb _ _ (c .before .before .before .if1 .left)))
+    let round-up = c .before .before .before .before .round-up in
+    let if1 = c .before .before .before .if1 in
+    refuses s _ _ (rw (← c .before .is-allowed-word .ensures) (c .if3 .taken)) ∙ passes s _ _ (le-ltb _ _ (c .before .before .if2 .left))
+    ∙ passes s _ _ (rw (← round-up .ensures .answer) (le-ltb _ _ (if1 .left)))
 
 check-limits-requires : tie.Need-check-limits-requires
 check-limits-requires c κs = omega arith
@@ -48,7 +53,11 @@ returns-4 : tie.Need-returns-4
 unfolding rules
 returns-4 c =
     let s = c .before .before .before .before .before .before .before .before .args .s in
-    c .check-limits .ensures ∙ passes s _ _ (rw (← c .before .before .is-allowed-word .ensures) (c .before .if3 .left)) ∙ passes s _ _ (le-ltb _ _ (c .before .before .before .if2 .left)) ∙ passes s _ _ (rw (← c .before .before .before .before .before .round-up .ensures .answer) (le-ltb _ _ (c .before .before .before .before .if1 .left)))
+    let round-up = c .before .before .before .before .before .round-up in
+    let if1 = c .before .before .before .before .if1 in
+    let if2 = c .before .before .before .if2 in
+    c .check-limits .ensures ∙ passes s _ _ (rw (← c .before .before .is-allowed-word .ensures) (c .before .if3 .left))
+    ∙ passes s _ _ (le-ltb _ _ (if2 .left)) ∙ passes s _ _ (rw (← round-up .ensures .answer) (le-ltb _ _ (if1 .left)))
 
 pub check-sizes-spec : {M : Type 1} → statement M
 check-sizes-spec =

@@ -1,4 +1,5 @@
--- `chip::erase_page` meets its contract. The invariant: what is left of the page, set to FF from here on, gives what the whole page gives from the start. Assumes nothing.
+-- `chip::erase_page` meets its contract. The invariant: what is left of the page, set to FF from here on, gives what the whole page gives
+-- from the start. Assumes nothing.
 use native.Mathlib.Omega.{arith}
 use mathlib.Core.Path.{_≡_, refl, sym, _∙_}
 use Prim.Native.Nat.{_+_, _-_, _≤_}
@@ -12,7 +13,8 @@ use Rattle.chip.proofs.erase_page.Statement.{statement}
 use Rattle.chip.proofs.erase_page.Tie as tie
 
 abbrev Inv-loop : tie.InvT-loop
-Inv-loop image₀ r a n k₀ image k = (length image ≡ length image₀) × (a + n ≤ length image₀) × (k ≤ n) × (put (a + k) (replicate (n - k) 0xff) image ≡ put a (replicate n 0xff) image₀)
+Inv-loop image₀ r a n k₀ image k = (length image ≡ length image₀) × (a + n ≤ length image₀) × (k ≤ n)
+    × (put (a + k) (replicate (n - k) 0xff) image ≡ put a (replicate n 0xff) image₀)
 
 abbrev μ-loop : tie.MeasureT-loop
 μ-loop image₀ r a n k₀ image k = n - k
@@ -22,10 +24,15 @@ pay-requires c κs = tt
 
 returns : tie.Need-returns Inv-loop μ-loop
 unfolding erasePage storeCount
-returns c = did-unpaid (c .before .before .before .args .g) (c .before .before .before .args .b) (erase (c .before .before .before .args .p .0)) (c .before .before .before .args .image .now) (c .before .pay .result) refl (c .before .pay .ensures) (c .if1 .taken)
+returns c =
+    let args = c .before .before .before .args in
+    let pay = c .before .pay in
+    did-unpaid (args .g) (args .b) (erase (args .p .0)) (args .image .now) (pay .result) refl (pay .ensures) (c .if1 .taken)
 
 calculate-page-address-requires : tie.Need-calculate-page-address-requires Inv-loop μ-loop
-calculate-page-address-requires c κs = (c .before .before .before .pre .0 .good, c .before .before .before .pre .1)
+calculate-page-address-requires c κs =
+    let pre = c .before .before .before .pre in
+    (pre .0 .good, pre .1)
 
 cast-a : tie.Need-cast-a Inv-loop μ-loop
 cast-a c = omega arith
@@ -35,8 +42,11 @@ cast-n c = omega arith
 
 loop-holds : tie.Need-loop-holds Inv-loop μ-loop
 loop-holds c =
+    let args-g = c .before .before .before .before .before .before .args .g in
+    let args-p-0 = c .before .before .before .before .before .before .args .p .0 in
+    let pre-1 = c .before .before .before .before .before .before .pre .1 in
     let e = c .before .before .calculate-page-address .ensures in
-    (refl, omega (arith, page-in (c .before .before .before .before .before .before .args .g) (c .before .before .before .before .before .before .args .p .0) (c .before .before .before .before .before .before .pre .1)), omega arith, rw (add-zero, sub-zero))
+    (refl, omega (arith, page-in args-g args-p-0 pre-1), omega arith, rw (add-zero, sub-zero))
 
 add-image : tie.Need-add-image Inv-loop μ-loop
 add-image c = omega arith
@@ -52,9 +62,9 @@ loop-less c = omega arith
 
 loop-again : tie.Need-loop-again Inv-loop μ-loop
 loop-again c =
-    let l = c .before .loop in
-    let a = c .before .before .before .before .calculate-page-address .result .0 in
     let n = c .before .before .before .before .before .before .before .before .args .g .page in
+    let a = c .before .before .before .before .calculate-page-address .result .0 in
+    let l = c .before .loop in
     let x : a + (l .k + 1) ≡ a + l .k + 1 = omega arith in
     let y : n - (l .k + 1) ≡ n - l .k - 1 = omega arith in
     let s = erase-step (l .image) (a + l .k) (n - l .k) (omega arith) (omega arith) in
@@ -66,10 +76,16 @@ same-length c = c .before .loop .inv .0
 returns-2 : tie.Need-returns-2 Inv-loop μ-loop
 unfolding erasePage imageBy storeCount
 returns-2 c =
-    let l = c .before .loop in
     let a = c .before .before .before .before .before .before .before .before .args in
-    did-paid (a .g) (a .b) (erase (a .p .0)) (a .image .now) (c .before .before .before .before .before .before .pay .result) refl (c .before .before .before .before .before .before .pay .ensures) (l .image) (c .before .before .before .before .before .if1 .left)
-    (rw (← c .before .before .before .before .calculate-page-address .ensures) (sym (erase-end (l .image) (c .before .before .before .before .calculate-page-address .result .0 + l .k) (a .g .page - l .k) (omega arith)) ∙ l .inv .3))
+    let pay-ensures = c .before .before .before .before .before .before .pay .ensures in
+    let pay-result = c .before .before .before .before .before .before .pay .result in
+    let if1-left = c .before .before .before .before .before .if1 .left in
+    let calculate-page-address-ensures = c .before .before .before .before .calculate-page-address .ensures in
+    let calculate-page-address-result-0 = c .before .before .before .before .calculate-page-address .result .0 in
+    let l = c .before .loop in
+    did-paid (a .g) (a .b) (erase (a .p .0)) (a .image .now) pay-result refl pay-ensures (l .image) if1-left
+    (rw (← calculate-page-address-ensures)
+    (sym (erase-end (l .image) (calculate-page-address-result-0 + l .k) (a .g .page - l .k) (omega arith)) ∙ l .inv .3))
 
 pub erase-page-spec : {M : Type 1} → statement M
 erase-page-spec =

@@ -42,8 +42,8 @@ loop-less c = omega arith
 
 loop-again : tie.Need-loop-again Inv-loop μ-loop
 loop-again c =
-    let l = c .before .before .loop in
     let a = c .before .before .before .before .before .args in
+    let l = c .before .before .loop in
     let h : l .i < length (drop (a .from) (a .bytes .now)) = simp length-drop (omega arith) in
     let e : wordLimit - l .i - 1 ≡ wordLimit - (l .i + 1) = omega arith in
     let s = fill-step (drop (a .from) (a .bytes .now)) (l .i) (wordLimit - l .i) 0 h (omega arith) in
@@ -51,8 +51,8 @@ loop-again c =
 
 returns : tie.Need-returns Inv-loop μ-loop
 returns c =
-    let l = c .before .loop in
     let a = c .before .before .before .before .args in
+    let l = c .before .loop in
     let D = drop (a .from) (a .bytes .now) in
     let e : length D ≡ length (a .bytes .now) - a .from = length-drop (a .from) (a .bytes .now) in
     rw (l .inv .1) (pad-end D 0 (a .w) (l .i) (wordLimit - l .i) (omega arith) (omega arith))

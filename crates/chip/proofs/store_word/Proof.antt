@@ -1,4 +1,5 @@
--- `chip::store_word` meets its contract. The invariant: what is left of the word, put from here on, gives what the whole word gives from the start. Assumes nothing.
+-- `chip::store_word` meets its contract. The invariant: what is left of the word, put from here on, gives what the whole word gives from
+-- the start. Assumes nothing.
 use native.Mathlib.Omega.{arith}
 use mathlib.Core.Path.{_≡_, refl, sym, _∙_}
 use Prim.Native.Nat.{_+_, _-_, _≤_}
@@ -11,7 +12,8 @@ use Rattle.chip.proofs.store_word.Statement.{statement}
 use Rattle.chip.proofs.store_word.Tie as tie
 
 abbrev Inv-loop : tie.InvT-loop
-Inv-loop image₀ word r a i₀ image i = (length image ≡ length image₀) × (i ≤ length word) × (put (a + i) (ands (drop (a + i) image) (drop i word)) image ≡ put a (ands (drop a image₀) word) image₀)
+Inv-loop image₀ word r a i₀ image i = (length image ≡ length image₀) × (i ≤ length word)
+    × (put (a + i) (ands (drop (a + i) image) (drop i word)) image ≡ put a (ands (drop a image₀) word) image₀)
 
 abbrev μ-loop : tie.MeasureT-loop
 μ-loop image₀ word r a i₀ image i = length word - i
@@ -21,7 +23,11 @@ pay-requires c κs = tt
 
 returns : tie.Need-returns Inv-loop μ-loop
 unfolding storeCount
-returns c = did-unpaid (c .before .before .before .before .args .g) (c .before .before .before .before .args .b) (store (c .before .before .before .before .args .at .0) (c .before .before .before .before .args .word .now)) (c .before .before .before .before .args .image .now) (c .before .pay .result) refl (c .before .pay .ensures) (c .if1 .taken)
+returns c =
+    let args = c .before .before .before .before .args in
+    let pay = c .before .pay in
+    did-unpaid (args .g) (args .b) (store (args .at .0) (args .word .now)) (args .image .now) (pay .result) refl (pay .ensures)
+    (c .if1 .taken)
 
 cast-a : tie.Need-cast-a Inv-loop μ-loop
 cast-a c = omega arith
@@ -52,8 +58,8 @@ loop-less c = omega arith
 
 loop-again : tie.Need-loop-again Inv-loop μ-loop
 loop-again c =
-    let l = c .before .before .before .loop in
     let a = c .before .before .before .before .before .before .before .before .before .args in
+    let l = c .before .before .before .loop in
     let s = and-step (l .image) (a .at .0) (a .word .now) (l .i) (omega arith) (omega arith) in
     (simp length-set (l .inv .0), omega arith, sym s ∙ l .inv .2)
 
@@ -63,9 +69,12 @@ same-length c = c .before .loop .inv .0
 returns-2 : tie.Need-returns-2 Inv-loop μ-loop
 unfolding imageBy storeCount
 returns-2 c =
-    let l = c .before .loop in
     let a = c .before .before .before .before .before .before .before .args in
-    did-paid (a .g) (a .b) (store (a .at .0) (a .word .now)) (a .image .now) (c .before .before .before .before .pay .result) refl (c .before .before .before .before .pay .ensures) (l .image) (c .before .before .before .if1 .left)
+    let pay-ensures = c .before .before .before .before .pay .ensures in
+    let pay-result = c .before .before .before .before .pay .result in
+    let if1-left = c .before .before .before .if1 .left in
+    let l = c .before .loop in
+    did-paid (a .g) (a .b) (store (a .at .0) (a .word .now)) (a .image .now) pay-result refl pay-ensures (l .image) if1-left
     (sym (and-end (l .image) (a .at .0 + l .i) (a .word .now) (l .i) (omega arith)) ∙ l .inv .2)
 
 pub store-word-spec : {M : Type 1} → statement M

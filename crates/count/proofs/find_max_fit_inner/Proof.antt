@@ -20,15 +20,25 @@ enum-known-youngest : tie.Need-enum-known-youngest
 enum-known-youngest c = search needs
 
 fit-from-requires : tie.Need-fit-from-requires
-fit-from-requires c κs = (c .before .before .before .before .before .before .pre, c .before .before .before .find-youngest-page .ensures .within _ (ap chosenAs (c .before .youngest .given .1)), c .before .before .before .before .page-states .ensures)
+fit-from-requires c κs =
+    let pre = c .before .before .before .before .before .before .pre in
+    let page-states = c .before .before .before .before .page-states in
+    let find-youngest-page = c .before .before .before .find-youngest-page in
+    (pre, find-youngest-page .ensures .within _ (ap chosenAs (c .before .youngest .given .1)), page-states .ensures)
 
 returns : tie.Need-returns
 unfolding fit
-returns c = rw (seen (c .before .before .find-youngest-page .ensures) (ap chosenAs (c .enum-told .given .1)) (c .before .before .before .page-states .ensures))
+returns c =
+    let page-states = c .before .before .before .page-states in
+    rw (seen (c .before .before .find-youngest-page .ensures) (ap chosenAs (c .enum-told .given .1)) (page-states .ensures))
 
 returns-2 : tie.Need-returns-2
 unfolding fit
-returns-2 c = rw (seen (c .before .before .before .before .find-youngest-page .ensures) (ap chosenAs (c .before .before .youngest .given .1)) (c .before .before .before .before .before .page-states .ensures)) (c .fit-from .ensures)
+returns-2 c =
+    let page-states = c .before .before .before .before .before .page-states in
+    let find-youngest-page = c .before .before .before .before .find-youngest-page in
+    rw (seen (find-youngest-page .ensures) (ap chosenAs (c .before .before .youngest .given .1)) (page-states .ensures))
+    (c .fit-from .ensures)
 
 pub find-max-fit-inner-spec : {M : Type 1} → statement M
 find-max-fit-inner-spec =

@@ -12,7 +12,9 @@ available-data-bytes-requires : tie.Need-available-data-bytes-requires
 available-data-bytes-requires c κs = c .before .before .pre .0 .good
 
 returns : tie.Need-returns
-returns c = rw (c .available-data-bytes .ensures, c .before .find-free-in-page .ensures .is .left) (ap gives (available-longest (c .before .before .before .args .g) _))
+returns c =
+    let args = c .before .before .before .args in
+    rw (c .available-data-bytes .ensures, c .before .find-free-in-page .ensures .is .left) (ap gives (available-longest (args .g) _))
 
 pub fit-behind-spec : {M : Type 1} → statement M
 fit-behind-spec =

@@ -8,7 +8,9 @@ enum-told : tie.Need-enum-told
 enum-told c = search needs
 
 page-contains-live-data-requires : tie.Need-page-contains-live-data-requires
-page-contains-live-data-requires c κs = c .before .before .before .pre
+page-contains-live-data-requires c κs =
+    let pre = c .before .before .before .pre in
+    pre
 
 enum-told-2 : tie.Need-enum-told-2
 enum-told-2 c = search needs

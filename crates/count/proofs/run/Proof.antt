@@ -7,13 +7,17 @@ enum-told : tie.Need-enum-told
 enum-told c = search needs
 
 find-max-fit-inner-requires : tie.Need-find-max-fit-inner-requires
-find-max-fit-inner-requires c κs = c .before .before .before .pre
+find-max-fit-inner-requires c κs =
+    let pre = c .before .before .before .pre in
+    pre
 
 enum-told-2 : tie.Need-enum-told-2
 enum-told-2 c = search needs
 
 space-left-inner-requires : tie.Need-space-left-inner-requires
-space-left-inner-requires c κs = c .before .before .before .pre
+space-left-inner-requires c κs =
+    let pre = c .before .before .before .pre in
+    pre
 
 returns : tie.Need-returns
 returns c = rw (c .before .enum-told .given .1) (c .find-max-fit-inner .ensures)

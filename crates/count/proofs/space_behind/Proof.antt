@@ -21,29 +21,56 @@ enum-told-2 : tie.Need-enum-told-2
 enum-told-2 c = search needs
 
 is-page-empty-requires : tie.Need-is-page-empty-requires
-is-page-empty-requires c κs = c .before .before .before .before .before .pre
+is-page-empty-requires c κs =
+    let pre = c .before .before .before .before .before .pre in
+    pre
 
 calculate-page-size-requires : tie.Need-calculate-page-size-requires
-calculate-page-size-requires c κs = c .before .before .before .before .before .before .before .pre .0 .good
+calculate-page-size-requires c κs =
+    let pre = c .before .before .before .before .before .before .before .pre in
+    pre .0 .good
 
 returns : tie.Need-returns
 returns c =
-    let d = data-in (c .before .before .before .before .before .before .before .before .args .g) (c .before .before .before .before .before .before .before .before .args .page .0) _ (c .before .before .before .before .before .before .before .before .pre .0) (c .before .before .before .before .before .before .before .before .pre .1) in
+    let args-g = c .before .before .before .before .before .before .before .before .args .g in
+    let args-page-0 = c .before .before .before .before .before .before .before .before .args .page .0 in
+    let pre-0 = c .before .before .before .before .before .before .before .before .pre .0 in
+    let pre-1 = c .before .before .before .before .before .before .before .before .pre .1 in
+    let find-free-in-page-ensures = c .before .before .before .before .before .before .find-free-in-page .ensures in
+    let available-data-bytes-ensures = c .before .before .before .before .before .available-data-bytes .ensures in
+    let enum-told2-given-1 = c .before .before .before .enum-told2 .given .1 in
     let q = c .calculate-page-size .ensures in
-    let e = sym (c .before .before .before .before .before .available-data-bytes .ensures) ∙ c .before .before .before .enum-told2 .given .1 in
-    record { is = λ n. space-popped (c .before .before .before .before .before .before .find-free-in-page .ensures) e (sym (c .before .before .is-page-empty .ensures) ∙ c .before .if1 .taken) ∙ ap gives (sym q); small = omega arith }
+    let d = data-in args-g args-page-0 _ pre-0 pre-1 in
+    let e = sym available-data-bytes-ensures ∙ enum-told2-given-1 in
+    record {
+      is = λ n. space-popped find-free-in-page-ensures e (sym (c .before .before .is-page-empty .ensures) ∙ c .before .if1 .taken)
+          ∙ ap gives (sym q);
+      small = omega arith;
+    }
 
 returns-2 : tie.Need-returns-2
 returns-2 c =
-    let d = data-in (c .before .before .before .before .before .args .g) (c .before .before .before .before .before .args .page .0) _ (c .before .before .before .before .before .pre .0) (c .before .before .before .before .before .pre .1) in
+    let args-g = c .before .before .before .before .before .args .g in
+    let args-page-0 = c .before .before .before .before .before .args .page .0 in
+    let pre-0 = c .before .before .before .before .before .pre .0 in
+    let pre-1 = c .before .before .before .before .before .pre .1 in
     let f = c .before .before .before .find-free-in-page .ensures in
-    record { is = λ n. space-served f _ (sym (c .before .before .available-data-bytes .ensures) ∙ c .enum-told .given .1); small = omega arith }
+    let d = data-in args-g args-page-0 _ pre-0 pre-1 in
+    record {
+      is = λ n. space-served f _ (sym (c .before .before .available-data-bytes .ensures) ∙ c .enum-told .given .1);
+      small = omega arith;
+    }
 
 returns-3 : tie.Need-returns-3
 returns-3 c =
-    let d = data-in (c .before .before .before .before .before .before .before .args .g) (c .before .before .before .before .before .before .before .args .page .0) _ (c .before .before .before .before .before .before .before .pre .0) (c .before .before .before .before .before .before .before .pre .1) in
+    let args-g = c .before .before .before .before .before .before .before .args .g in
+    let args-page-0 = c .before .before .before .before .before .before .before .args .page .0 in
+    let pre-0 = c .before .before .before .before .before .before .before .pre .0 in
+    let pre-1 = c .before .before .before .before .before .before .before .pre .1 in
     let f = c .before .before .before .before .before .find-free-in-page .ensures in
-    let e = sym (c .before .before .before .before .available-data-bytes .ensures) ∙ c .before .before .enum-told2 .given .1 in
+    let available-data-bytes-ensures = c .before .before .before .before .available-data-bytes .ensures in
+    let d = data-in args-g args-page-0 _ pre-0 pre-1 in
+    let e = sym available-data-bytes-ensures ∙ c .before .before .enum-told2 .given .1 in
     record { is = λ n. space-live f e (sym (c .before .is-page-empty .ensures) ∙ c .if1 .left); small = omega arith }
 
 pub space-behind-spec : {M : Type 1} → statement M

@@ -26,14 +26,19 @@ same-length c = search needs
 
 returns : tie.Need-returns
 unfolding spaceLeft
-returns c = rw (c .enum-told .given .1) at (c .before .before .before .before .before .run-with-auto-repair .ensures)
+returns c =
+    let run-with-auto-repair = c .before .before .before .before .before .run-with-auto-repair in
+    rw (c .enum-told .given .1) at (run-with-auto-repair .ensures)
 
 same-length-2 : tie.Need-same-length-2
 same-length-2 c = search needs
 
 returns-2 : tie.Need-returns-2
 unfolding spaceLeft
-returns-2 c = rw (c .before .before .before .before .counted .given .1, c .before .room .given .1) at (c .before .before .before .before .before .before .before .before .before .run-with-auto-repair .ensures)
+returns-2 c =
+    let run-with-auto-repair = c .before .before .before .before .before .before .before .before .before .run-with-auto-repair in
+    let counted = c .before .before .before .before .counted in
+    rw (counted .given .1, c .before .room .given .1) at (run-with-auto-repair .ensures)
 
 same-length-3 : tie.Need-same-length-3
 same-length-3 c = search needs
@@ -41,7 +46,9 @@ same-length-3 c = search needs
 returns-3 : tie.Need-returns-3
 unfolding spaceLeft
 returns-3 c =
-    let e = rw (c .before .before .before .counted .given .1, c .enum-told2 .given .1) at (c .before .before .before .before .before .before .before .before .run-with-auto-repair .ensures) in
+    let run-with-auto-repair = c .before .before .before .before .before .before .before .before .run-with-auto-repair in
+    let counted = c .before .before .before .counted in
+    let e = rw (counted .given .1, c .enum-told2 .given .1) at (run-with-auto-repair .ensures) in
     record { did = e .did; says = λ f. absurd (left-some _ _ (sym (e .says f))) }
 
 pub space-left-spec : {M : Type 1} → statement M

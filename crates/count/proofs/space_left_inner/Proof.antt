@@ -10,7 +10,8 @@ use Rattle.count.proofs.space_left_inner.Statement.{statement}
 use Rattle.count.proofs.space_left_inner.Tie as tie
 
 abbrev Inv-loop : tie.InvT-loop
-Inv-loop image g table total₀ p₀ total p = (p ≤ g .pages) × (total ≤ 4294967296 * p) × (spaceOf g image (allPages g) ≡ plus total (spaceOf g image (around g (g .pages - p) p)))
+Inv-loop image g table total₀ p₀ total p =
+    (p ≤ g .pages) × (total ≤ 4294967296 * p) × (spaceOf g image (allPages g) ≡ plus total (spaceOf g image (around g (g .pages - p) p)))
 
 abbrev μ-loop : tie.MeasureT-loop
 μ-loop image g table total₀ p₀ total p = g .pages - p
@@ -22,10 +23,14 @@ loop-holds : tie.Need-loop-holds Inv-loop μ-loop
 loop-holds c = (omega arith, omega arith, sum-first (c .before .before .args .g) (c .before .before .args .image .now))
 
 cast-i : tie.Need-cast-i Inv-loop μ-loop
-cast-i c = omega (arith, c .before .before .before .before .before .pre .good .few)
+cast-i c =
+    let pre-good-few = c .before .before .before .before .before .pre .good .few in
+    omega (arith, pre-good-few)
 
 array-copy-out-state : tie.Need-array-copy-out-state Inv-loop μ-loop
-array-copy-out-state c = omega (arith, c .before .before .before .before .before .pre .good .few)
+array-copy-out-state c =
+    let pre-good-few = c .before .before .before .before .before .pre .good .few in
+    omega (arith, pre-good-few)
 
 is-same-requires : tie.Need-is-same-requires Inv-loop μ-loop
 is-same-requires c κs = tt
@@ -33,36 +38,55 @@ is-same-requires c κs = tt
 returns : tie.Need-returns Inv-loop μ-loop
 unfolding space
 returns c =
+    let args-g = c .before .before .before .before .before .before .before .before .args .g in
+    let args-image-now = c .before .before .before .before .before .before .before .before .args .image .now in
+    let page-states-ensures-holds = c .before .before .before .before .before .before .page-states .ensures .holds in
     let l = c .before .before .before .before .before .loop in
-    let s = c .before .before .before .before .before .before .page-states .ensures .holds (l .page-index) (omega arith) in
-    rw (l .inv .2 ∙ sum-fails (c .before .before .before .before .before .before .before .before .args .g) (c .before .before .before .before .before .before .before .before .args .image .now) (l .total-free-space) (l .page-index) (omega arith) (ap (λ x. same x Corrupted) (sym s) ∙ sym (c .before .is-same .ensures) ∙ c .if2 .taken))
+    let s = page-states-ensures-holds (l .page-index) (omega arith) in
+    rw (l .inv .2 ∙ sum-fails args-g args-image-now (l .total-free-space) (l .page-index) (omega arith)
+    (ap (λ x. same x Corrupted) (sym s) ∙ sym (c .before .is-same .ensures) ∙ c .if2 .taken))
 
 space-in-page-requires : tie.Need-space-in-page-requires Inv-loop μ-loop
-space-in-page-requires c κs = (c .before .before .before .before .before .before .before .before .pre, omega arith)
+space-in-page-requires c κs =
+    let pre = c .before .before .before .before .before .before .before .before .pre in
+    (pre, omega arith)
 
 add-total-free-space : tie.Need-add-total-free-space Inv-loop μ-loop
-add-total-free-space c = omega (arith, c .before .before .before .before .before .before .before .before .before .pre .good .few, c .space-in-page .ensures .small)
+add-total-free-space c =
+    let pre-good-few = c .before .before .before .before .before .before .before .before .before .pre .good .few in
+    omega (arith, pre-good-few, c .space-in-page .ensures .small)
 
 add-page-index : tie.Need-add-page-index Inv-loop μ-loop
-add-page-index c = omega (arith, c .before .before .before .before .before .before .before .before .before .pre .good .few)
+add-page-index c =
+    let pre-good-few = c .before .before .before .before .before .before .before .before .before .pre .good .few in
+    omega (arith, pre-good-few)
 
 loop-less : tie.Need-loop-less Inv-loop μ-loop
-loop-less c = omega (arith, c .before .before .before .before .before .before .before .before .before .pre .good .few)
+loop-less c =
+    let pre-good-few = c .before .before .before .before .before .before .before .before .before .pre .good .few in
+    omega (arith, pre-good-few)
 
 loop-again : tie.Need-loop-again Inv-loop μ-loop
 loop-again c =
-    let l = c .before .before .before .before .before .before .loop in
     let a = c .before .before .before .before .before .before .before .before .before .args in
-    let s = c .before .before .before .before .before .before .before .page-states .ensures .holds (l .page-index) (omega arith) in
-    let e = c .space-in-page .ensures .is (sym (c .before .before .is-same .ensures) ∙ c .before .if2 .left) in
+    let page-states-ensures-holds = c .before .before .before .before .before .before .before .page-states .ensures .holds in
+    let l = c .before .before .before .before .before .before .loop in
     let q = c .space-in-page .ensures .small in
-    (omega arith, omega arith, l .inv .2 ∙ sum-next (a .g) (a .image .now) (l .total-free-space) (l .page-index) _ (omega arith) (ap (spaceBy (a .g) (a .image .now) (l .page-index)) (sym s) ∙ e))
+    let s = page-states-ensures-holds (l .page-index) (omega arith) in
+    let e = c .space-in-page .ensures .is (sym (c .before .before .is-same .ensures) ∙ c .before .if2 .left) in (
+      omega arith,
+      omega arith,
+      l .inv .2 ∙ sum-next (a .g) (a .image .now) (l .total-free-space) (l .page-index) _ (omega arith)
+          (ap (spaceBy (a .g) (a .image .now) (l .page-index)) (sym s) ∙ e),
+    )
 
 returns-2 : tie.Need-returns-2 Inv-loop μ-loop
 unfolding space
 returns-2 c =
+    let args-g = c .before .before .before .before .before .args .g in
+    let args-image-now = c .before .before .before .before .before .args .image .now in
     let l = c .before .before .loop in
-    rw (l .inv .2 ∙ sum-last (c .before .before .before .before .before .args .g) (c .before .before .before .before .before .args .image .now) (l .total-free-space) (l .page-index) (omega arith))
+    rw (l .inv .2 ∙ sum-last args-g args-image-now (l .total-free-space) (l .page-index) (omega arith))
 
 pub space-left-inner-spec : {M : Type 1} → statement M
 space-left-inner-spec =

@@ -21,7 +21,14 @@ cast-length : tie.Need-cast-length
 cast-length c = search needs
 
 kind-of-requires : tie.Need-kind-of-requires
-kind-of-requires c κs = item-room (c .before .before .before .before .before .before .args .g) (c .before .before .before .before .before .before .args .image .now) (c .before .before .before .before .before .before .args .at .0) (c .before .before .before .before .before .before .args .end .0) (c .before .before .before .before .read-new .ensures) _ (c .before .before .found .given .1) (c .before .before .before .before .before .before .pre) (omega arith)
+kind-of-requires c κs =
+    let args-at-0 = c .before .before .before .before .before .before .args .at .0 in
+    let args-end-0 = c .before .before .before .before .before .before .args .end .0 in
+    let args-g = c .before .before .before .before .before .before .args .g in
+    let args-image-now = c .before .before .before .before .before .before .args .image .now in
+    let pre = c .before .before .before .before .before .before .pre in
+    let read-new-ensures = c .before .before .before .before .read-new .ensures in
+    item-room args-g args-image-now args-at-0 args-end-0 read-new-ensures _ (c .before .before .found .given .1) pre (omega arith)
 
 mul-result : tie.Need-mul-result
 mul-result c = omega arith
@@ -30,13 +37,22 @@ add-result : tie.Need-add-result
 add-result c = omega (arith, c .kind-of .ensures .1)
 
 returns : tie.Need-returns
-returns c = seen-stop (c .before .before .before .before .args .g) (c .before .before .before .before .args .image .now) (c .before .before .before .before .args .at .0) (c .before .before .before .before .args .end .0) (c .before .before .read-new .ensures) (c .enum-told .given .1)
+returns c =
+    let args = c .before .before .before .before .args in
+    seen-stop (args .g) (args .image .now) (args .at .0) (args .end .0) (c .before .before .read-new .ensures) (c .enum-told .given .1)
 
 returns-2 : tie.Need-returns-2
-returns-2 c = seen-bad (c .before .before .before .before .args .g) (c .before .before .before .before .args .image .now) (c .before .before .before .before .args .at .0) (c .before .before .before .before .args .end .0) (c .before .before .read-new .ensures) (c .enum-told2 .given .1)
+returns-2 c =
+    let args = c .before .before .before .before .args in
+    seen-bad (args .g) (args .image .now) (args .at .0) (args .end .0) (c .before .before .read-new .ensures) (c .enum-told2 .given .1)
 
 returns-3 : tie.Need-returns-3
-returns-3 c = seen-item (c .before .before .before .before .before .before .before .args .g) (c .before .before .before .before .before .before .before .args .image .now) (c .before .before .before .before .before .before .before .args .at .0) (c .before .before .before .before .before .before .before .args .end .0) (c .before .before .before .before .before .read-new .ensures) _ (c .before .before .before .found .given .1) (c .before .before .before .before .before .before .before .pre) (c .kind-of .ensures .0)
+returns-3 c =
+    let args = c .before .before .before .before .before .before .before .args in
+    let pre = c .before .before .before .before .before .before .before .pre in
+    let read-new = c .before .before .before .before .before .read-new in
+    let found = c .before .before .before .found in
+    seen-item (args .g) (args .image .now) (args .at .0) (args .end .0) (read-new .ensures) _ (found .given .1) pre (c .kind-of .ensures .0)
 
 pub item-at-spec : {M : Type 1} → statement M
 item-at-spec =

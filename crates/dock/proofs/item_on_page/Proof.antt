@@ -13,33 +13,63 @@ use Rattle.dock.proofs.item_on_page.Statement.{statement}
 use Rattle.dock.proofs.item_on_page.Tie as tie
 
 page-data-start-address-requires : tie.Need-page-data-start-address-requires
-page-data-start-address-requires c κs = (c .before .pre .0 .good, c .before .pre .1)
+page-data-start-address-requires c κs =
+    let pre = c .before .pre in
+    (pre .0 .good, pre .1)
 
 page-data-end-address-requires : tie.Need-page-data-end-address-requires
-page-data-end-address-requires c κs = (c .before .before .pre .0 .good, c .before .before .pre .1)
+page-data-end-address-requires c κs =
+    let pre = c .before .before .pre in
+    (pre .0 .good, pre .1)
 
 refusal-code-requires : tie.Need-refusal-code-requires
 refusal-code-requires c κs = search needs
 
 returns : tie.Need-returns
-returns c = sight-below (c .before .before .before .before .before .before .before .args .g) (c .before .before .before .before .before .before .before .args .image .now) (c .before .before .before .before .before .before .before .args .p .0) (c .before .before .before .before .before .before .before .args .at .0) (omega (arith, c .before .before .before .before .before .page-data-start-address .ensures)) (c .refusal-code .ensures)
+returns c =
+    let args-at-0 = c .before .before .before .before .before .before .before .args .at .0 in
+    let args-g = c .before .before .before .before .before .before .before .args .g in
+    let args-image-now = c .before .before .before .before .before .before .before .args .image .now in
+    let args-p-0 = c .before .before .before .before .before .before .before .args .p .0 in
+    let page-data-start-address-ensures = c .before .before .before .before .before .page-data-start-address .ensures in
+    sight-below args-g args-image-now args-p-0 args-at-0 (omega (arith, page-data-start-address-ensures)) (c .refusal-code .ensures)
 
 refusal-code-requires-2 : tie.Need-refusal-code-requires-2
 refusal-code-requires-2 c κs = search needs
 
 returns-2 : tie.Need-returns-2
-returns-2 c = sight-above (c .before .before .before .before .before .before .before .before .before .before .args .g) (c .before .before .before .before .before .before .before .before .before .before .args .image .now) (c .before .before .before .before .before .before .before .before .before .before .args .p .0) (c .before .before .before .before .before .before .before .before .before .before .args .at .0) (omega (arith, c .before .before .before .before .before .before .before .before .page-data-start-address .ensures)) (omega (arith, c .before .before .before .before .before .before .before .page-data-end-address .ensures)) (c .refusal-code2 .ensures)
+returns-2 c =
+    let args-at-0 = c .before .before .before .before .before .before .before .before .before .before .args .at .0 in
+    let args-g = c .before .before .before .before .before .before .before .before .before .before .args .g in
+    let args-image-now = c .before .before .before .before .before .before .before .before .before .before .args .image .now in
+    let args-p-0 = c .before .before .before .before .before .before .before .before .before .before .args .p .0 in
+    let page-data-start-address-ensures = c .before .before .before .before .before .before .before .before .page-data-start-address .ensures in
+    let page-data-end-address-ensures = c .before .before .before .before .before .before .before .page-data-end-address .ensures in
+    sight-above args-g args-image-now args-p-0 args-at-0 (omega (arith, page-data-start-address-ensures))
+    (omega (arith, page-data-end-address-ensures)) (c .refusal-code2 .ensures)
 
 item-at-requires : tie.Need-item-at-requires
-item-at-requires c κs = inside (c .before .before .before .before .before .before .before .before .before .pre .0) (c .before .before .before .before .before .before .before .before .before .pre .1) (c .before .before .before .before .before .before .page-data-end-address .ensures) (c .if2 .left)
+item-at-requires c κs =
+    let pre = c .before .before .before .before .before .before .before .before .before .pre in
+    let page-data-end-address = c .before .before .before .before .before .before .page-data-end-address in
+    inside (pre .0) (pre .1) (page-data-end-address .ensures) (c .if2 .left)
 
 coded-requires : tie.Need-coded-requires
 coded-requires c κs = search needs
 
 returns-3 : tie.Need-returns-3
 returns-3 c =
-    sight-in (c .before .before .before .before .before .before .before .before .before .before .before .args .g) (c .before .before .before .before .before .before .before .before .before .before .before .args .image .now) (c .before .before .before .before .before .before .before .before .before .before .before .args .p .0) (c .before .before .before .before .before .before .before .before .before .before .before .args .at .0) (omega (arith, c .before .before .before .before .before .before .before .before .before .page-data-start-address .ensures)) (omega (arith, c .before .before .before .before .before .before .before .before .page-data-end-address .ensures))
-    (c .coded .ensures ∙ ap (code 0) (c .before .item-at .ensures ∙ ap (λ (e : ℕ). seen (c .before .before .before .before .before .before .before .before .before .before .before .args .at .0) (look (c .before .before .before .before .before .before .before .before .before .before .before .args .g) (part (c .before .before .before .before .before .before .before .before .before .before .before .args .at .0) (e - c .before .before .before .before .before .before .before .before .before .before .before .args .at .0) (c .before .before .before .before .before .before .before .before .before .before .before .args .image .now)))) (c .before .before .before .before .before .before .before .before .page-data-end-address .ensures)))
+    let args-at-0 = c .before .before .before .before .before .before .before .before .before .before .before .args .at .0 in
+    let args-g = c .before .before .before .before .before .before .before .before .before .before .before .args .g in
+    let args-image-now = c .before .before .before .before .before .before .before .before .before .before .before .args .image .now in
+    let args-p-0 = c .before .before .before .before .before .before .before .before .before .before .before .args .p .0 in
+    let page-data-start-address-ensures = c .before .before .before .before .before .before .before .before .before .page-data-start-address .ensures in
+    let page-data-end-address-ensures = c .before .before .before .before .before .before .before .before .page-data-end-address .ensures in
+    sight-in args-g args-image-now args-p-0 args-at-0 (omega (arith, page-data-start-address-ensures))
+    (omega (arith, page-data-end-address-ensures))
+    (c .coded .ensures ∙ ap (code 0)
+    (c .before .item-at .ensures
+    ∙ ap (λ (e : ℕ). seen args-at-0 (look args-g (part args-at-0 (e - args-at-0) args-image-now))) page-data-end-address-ensures))
 
 pub item-on-page-spec : {M : Type 1} → statement M
 item-on-page-spec =

@@ -19,7 +19,9 @@ returns : tie.Need-returns
 returns c = rw (← c .before .before .check-geometry .ensures, c .enum-told .given .1)
 
 returns-2 : tie.Need-returns-2
-returns-2 c = rw (← c .before .before .before .before .check-geometry .ensures, c .before .before .checked .given .1) (c .refusal-code .ensures)
+returns-2 c =
+    let check-geometry = c .before .before .before .before .check-geometry in
+    rw (← check-geometry .ensures, c .before .before .checked .given .1) (c .refusal-code .ensures)
 
 pub slipq-check-spec : {M : Type 1} → statement M
 slipq-check-spec =

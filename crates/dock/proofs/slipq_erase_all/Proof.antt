@@ -14,7 +14,9 @@ same-length : tie.Need-same-length
 same-length c = search needs
 
 returns : tie.Need-returns
-returns c = coded (c .before .before .before .erase-all .ensures) (c .erased-code .ensures)
+returns c =
+    let erase-all = c .before .before .before .erase-all in
+    coded (erase-all .ensures) (c .erased-code .ensures)
 
 pub slipq-erase-all-spec : {M : Type 1} → statement M
 slipq-erase-all-spec =

@@ -14,7 +14,9 @@ same-length : tie.Need-same-length
 same-length c = search needs
 
 returns : tie.Need-returns
-returns c = coded (c .before .before .before .erase-all-limited .ensures) (c .erased-code .ensures)
+returns c =
+    let erase-all-limited = c .before .before .before .erase-all-limited in
+    coded (erase-all-limited .ensures) (c .erased-code .ensures)
 
 pub slipq-erase-all-limited-spec : {M : Type 1} → statement M
 slipq-erase-all-limited-spec =

@@ -14,7 +14,9 @@ same-length : tie.Need-same-length
 same-length c = search needs
 
 returns : tie.Need-returns
-returns c = coded (c .before .before .before .find-max-fit .ensures) (c .fit-code .ensures)
+returns c =
+    let find-max-fit = c .before .before .before .find-max-fit in
+    coded (find-max-fit .ensures) (c .fit-code .ensures)
 
 pub slipq-find-max-fit-spec : {M : Type 1} → statement M
 slipq-find-max-fit-spec =

@@ -14,7 +14,9 @@ same-length : tie.Need-same-length
 same-length c = search needs
 
 returns : tie.Need-returns
-returns c = coded (c .before .before .before .find-max-fit-limited .ensures) (c .fit-code .ensures)
+returns c =
+    let find-max-fit-limited = c .before .before .before .find-max-fit-limited in
+    coded (find-max-fit-limited .ensures) (c .fit-code .ensures)
 
 pub slipq-find-max-fit-limited-spec : {M : Type 1} → statement M
 slipq-find-max-fit-limited-spec =

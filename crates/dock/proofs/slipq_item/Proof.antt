@@ -22,18 +22,33 @@ refusal-code-requires-2 c κs = search needs
 
 returns : tie.Need-returns
 unfolding itemCode
-returns c = page-missing _ _ (c .before .before .before .before .before .before .before .before .args .p) (c .before .before .before .before .before .before .check-geometry .ensures) _ _ (c .before .before .before .before .checked2 .given .1) (c .before .if1 .taken) (c .refusal-code2 .ensures)
+returns c =
+    let args = c .before .before .before .before .before .before .before .before .args in
+    let check-geometry = c .before .before .before .before .before .before .check-geometry in
+    let checked2 = c .before .before .before .before .checked2 in
+    page-missing _ _ (args .p) (check-geometry .ensures) _ _ (checked2 .given .1) (c .before .if1 .taken) (c .refusal-code2 .ensures)
 
 item-on-page-requires : tie.Need-item-on-page-requires
-item-on-page-requires c κs = (c .before .before .before .before .before .check-geometry .ensures .within _ (c .before .before .before .checked2 .given .1), c .if1 .left)
+item-on-page-requires c κs =
+    let check-geometry = c .before .before .before .before .before .check-geometry in
+    let checked2 = c .before .before .before .checked2 in
+    (check-geometry .ensures .within _ (checked2 .given .1), c .if1 .left)
 
 returns-2 : tie.Need-returns-2
 unfolding itemCode
-returns-2 c = page-refused _ _ (c .before .before .before .before .before .before .args .p) (c .before .before .before .before .check-geometry .ensures) _ _ (c .before .before .checked .given .1) (c .refusal-code .ensures)
+returns-2 c =
+    let args = c .before .before .before .before .before .before .args in
+    let check-geometry = c .before .before .before .before .check-geometry in
+    page-refused _ _ (args .p) (check-geometry .ensures) _ _ (c .before .before .checked .given .1) (c .refusal-code .ensures)
 
 returns-3 : tie.Need-returns-3
 unfolding itemCode
-returns-3 c = page-there _ _ (c .before .before .before .before .before .before .before .before .args .p) (c .before .before .before .before .before .before .check-geometry .ensures) (λ g. sight g (c .before .before .before .before .before .before .before .before .args .image .now) (c .before .before .before .before .before .before .before .before .args .p) (c .before .before .before .before .before .before .before .before .args .address)) _ (c .before .before .before .before .checked2 .given .1) (c .before .if1 .left) (c .item-on-page .ensures)
+returns-3 c =
+    let args = c .before .before .before .before .before .before .before .before .args in
+    let check-geometry = c .before .before .before .before .before .before .check-geometry in
+    let checked2 = c .before .before .before .before .checked2 in
+    page-there _ _ (args .p) (check-geometry .ensures) (λ g. sight g (args .image .now) (args .p) (args .address)) _ (checked2 .given .1)
+    (c .before .if1 .left) (c .item-on-page .ensures)
 
 pub slipq-item-spec : {M : Type 1} → statement M
 slipq-item-spec =

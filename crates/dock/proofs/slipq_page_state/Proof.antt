@@ -27,10 +27,17 @@ refusal-code-requires-2 c κs = search needs
 
 returns : tie.Need-returns
 unfolding stateCode
-returns c = page-missing _ _ (c .before .before .before .before .before .before .before .before .args .p) (c .before .before .before .before .before .before .check-geometry .ensures) _ _ (c .before .before .before .before .checked2 .given .1) (c .before .if1 .taken) (c .refusal-code2 .ensures)
+returns c =
+    let args = c .before .before .before .before .before .before .before .before .args in
+    let check-geometry = c .before .before .before .before .before .before .check-geometry in
+    let checked2 = c .before .before .before .before .checked2 in
+    page-missing _ _ (args .p) (check-geometry .ensures) _ _ (checked2 .given .1) (c .before .if1 .taken) (c .refusal-code2 .ensures)
 
 get-page-state-requires : tie.Need-get-page-state-requires
-get-page-state-requires c κs = (c .before .before .before .before .before .check-geometry .ensures .within _ (c .before .before .before .checked2 .given .1), c .if1 .left)
+get-page-state-requires c κs =
+    let check-geometry = c .before .before .before .before .before .check-geometry in
+    let checked2 = c .before .before .before .checked2 in
+    (check-geometry .ensures .within _ (checked2 .given .1), c .if1 .left)
 
 rank-requires : tie.Need-rank-requires
 rank-requires c κs = search needs
@@ -43,11 +50,21 @@ coded-requires c κs = search needs
 
 returns-2 : tie.Need-returns-2
 unfolding stateCode
-returns-2 c = page-refused _ _ (c .before .before .before .before .before .before .args .p) (c .before .before .before .before .check-geometry .ensures) _ _ (c .before .before .checked .given .1) (c .refusal-code .ensures)
+returns-2 c =
+    let args = c .before .before .before .before .before .before .args in
+    let check-geometry = c .before .before .before .before .check-geometry in
+    page-refused _ _ (args .p) (check-geometry .ensures) _ _ (c .before .before .checked .given .1) (c .refusal-code .ensures)
 
 returns-3 : tie.Need-returns-3
 unfolding stateCode
-returns-3 c = page-there _ _ (c .before .before .before .before .before .before .before .before .before .before .args .p) (c .before .before .before .before .before .before .before .before .check-geometry .ensures) (λ g. code 0 (rank (state g (c .before .before .before .before .before .before .before .before .before .before .args .image .now) (c .before .before .before .before .before .before .before .before .before .before .args .p)))) _ (c .before .before .before .before .before .before .checked2 .given .1) (c .before .before .before .if1 .left) (c .coded .ensures ∙ ap (code 0) (c .before .rank .ensures ∙ ap (λ (x : PageState). rank x) (c .before .before .get-page-state .ensures)))
+returns-3 c =
+    let args = c .before .before .before .before .before .before .before .before .before .before .args in
+    let check-geometry = c .before .before .before .before .before .before .before .before .check-geometry in
+    let checked2 = c .before .before .before .before .before .before .checked2 in
+    let if1 = c .before .before .before .if1 in
+    page-there _ _ (args .p) (check-geometry .ensures) (λ g. code 0 (rank (state g (args .image .now) (args .p)))) _ (checked2 .given .1)
+    (if1 .left) (c .coded .ensures
+    ∙ ap (code 0) (c .before .rank .ensures ∙ ap (λ (x : PageState). rank x) (c .before .before .get-page-state .ensures)))
 
 pub slipq-page-state-spec : {M : Type 1} → statement M
 slipq-page-state-spec =

@@ -17,7 +17,9 @@ same-length-2 : tie.Need-same-length-2
 same-length-2 c = search needs
 
 returns : tie.Need-returns
-returns c = coded-shown (c .before .before .before .before .before .peek .ensures) (c .shown-code .ensures)
+returns c =
+    let peek = c .before .before .before .before .before .peek in
+    coded-shown (peek .ensures) (c .shown-code .ensures)
 
 pub slipq-peek-spec : {M : Type 1} → statement M
 slipq-peek-spec =

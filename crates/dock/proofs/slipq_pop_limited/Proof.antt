@@ -17,7 +17,9 @@ same-length-2 : tie.Need-same-length-2
 same-length-2 c = search needs
 
 returns : tie.Need-returns
-returns c = coded-shown (c .before .before .before .before .before .pop-limited .ensures) (c .shown-code .ensures)
+returns c =
+    let pop-limited = c .before .before .before .before .before .pop-limited in
+    coded-shown (pop-limited .ensures) (c .shown-code .ensures)
 
 pub slipq-pop-limited-spec : {M : Type 1} → statement M
 slipq-pop-limited-spec =

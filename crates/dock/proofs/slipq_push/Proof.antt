@@ -14,7 +14,9 @@ same-length : tie.Need-same-length
 same-length c = search needs
 
 returns : tie.Need-returns
-returns c = coded (c .before .before .before .push .ensures) (c .pushed-code .ensures)
+returns c =
+    let push = c .before .before .before .push in
+    coded (push .ensures) (c .pushed-code .ensures)
 
 pub slipq-push-spec : {M : Type 1} → statement M
 slipq-push-spec =

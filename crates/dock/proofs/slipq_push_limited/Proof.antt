@@ -14,7 +14,9 @@ same-length : tie.Need-same-length
 same-length c = search needs
 
 returns : tie.Need-returns
-returns c = coded (c .before .before .before .push-limited .ensures) (c .pushed-code .ensures)
+returns c =
+    let push-limited = c .before .before .before .push-limited in
+    coded (push-limited .ensures) (c .pushed-code .ensures)
 
 pub slipq-push-limited-spec : {M : Type 1} → statement M
 slipq-push-limited-spec =

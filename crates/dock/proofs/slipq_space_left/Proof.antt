@@ -14,7 +14,9 @@ same-length : tie.Need-same-length
 same-length c = search needs
 
 returns : tie.Need-returns
-returns c = coded (c .before .before .before .space-left .ensures) (c .space-code .ensures)
+returns c =
+    let space-left = c .before .before .before .space-left in
+    coded (space-left .ensures) (c .space-code .ensures)
 
 pub slipq-space-left-spec : {M : Type 1} → statement M
 slipq-space-left-spec =

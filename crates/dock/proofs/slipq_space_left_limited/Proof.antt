@@ -14,7 +14,9 @@ same-length : tie.Need-same-length
 same-length c = search needs
 
 returns : tie.Need-returns
-returns c = coded (c .before .before .before .space-left-limited .ensures) (c .space-code .ensures)
+returns c =
+    let space-left-limited = c .before .before .before .space-left-limited in
+    coded (space-left-limited .ensures) (c .space-code .ensures)
 
 pub slipq-space-left-limited-spec : {M : Type 1} → statement M
 slipq-space-left-limited-spec =

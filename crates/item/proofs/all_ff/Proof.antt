@@ -21,7 +21,11 @@ shared-slice-read-if1 : tie.Need-shared-slice-read-if1 Inv-loop μ-loop
 shared-slice-read-if1 c = omega arith
 
 returns : tie.Need-returns Inv-loop μ-loop
-returns c = sym (blank-not (c .before .before .before .before .args .bytes .now) (c .before .before .before .loop .i) (omega arith) (c .if1 .taken)) ∙ c .before .before .before .loop .inv .1
+returns c =
+    let args-bytes-now = c .before .before .before .before .args .bytes .now in
+    let loop-i = c .before .before .before .loop .i in
+    let loop-inv-1 = c .before .before .before .loop .inv .1 in
+    sym (blank-not args-bytes-now loop-i (omega arith) (c .if1 .taken)) ∙ loop-inv-1
 
 add-i : tie.Need-add-i Inv-loop μ-loop
 add-i c = omega arith
@@ -30,7 +34,11 @@ loop-less : tie.Need-loop-less Inv-loop μ-loop
 loop-less c = omega arith
 
 loop-again : tie.Need-loop-again Inv-loop μ-loop
-loop-again c = (omega arith, sym (blank-on (c .before .before .before .before .args .bytes .now) (c .before .before .before .loop .i) (omega arith) (c .if1 .left)) ∙ c .before .before .before .loop .inv .1)
+loop-again c =
+    let args-bytes-now = c .before .before .before .before .args .bytes .now in
+    let loop-i = c .before .before .before .loop .i in
+    let loop-inv-1 = c .before .before .before .loop .inv .1 in
+    (omega arith, sym (blank-on args-bytes-now loop-i (omega arith) (c .if1 .left)) ∙ loop-inv-1)
 
 returns-2 : tie.Need-returns-2 Inv-loop μ-loop
 returns-2 c = sym (blank-end (c .before .before .args .bytes .now) (c .before .loop .i) (omega arith)) ∙ c .before .loop .inv .1

@@ -31,8 +31,9 @@ loop-less c = omega arith
 
 loop-again : tie.Need-loop-again Inv-loop μ-loop
 loop-again c =
+    let args-bytes-now = c .before .before .before .args .bytes .now in
     let l = c .before .before .loop in
-    (simp length-set (l .inv .0), omega arith, sym (copy-step (c .before .before .before .args .bytes .now) (l .buffer) (l .i) (omega arith) (omega arith)) ∙ l .inv .2)
+    (simp length-set (l .inv .0), omega arith, sym (copy-step args-bytes-now (l .buffer) (l .i) (omega arith) (omega arith)) ∙ l .inv .2)
 
 same-length : tie.Need-same-length Inv-loop μ-loop
 same-length c = c .before .loop .inv .0

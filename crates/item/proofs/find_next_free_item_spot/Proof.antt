@@ -18,21 +18,36 @@ enum-known-room c = search needs
 
 returns : tie.Need-returns
 returns c =
-    let e = ap (available (c .before .before .before .before .before .before .before .before .args .g)) (sym (c .before .before .before .before .before .before .find-free .ensures .left)) ∙ sym (c .before .before .before .before .before .available-data-bytes .ensures) ∙ c .before .before .before .room .given .1 in
-    record { enough = serves-yes (c .before .before .before .before .before .before .before .before .args .g) _ _ e (c .before .before .before .before .before .before .before .before .args .data-length) (c .before .if1 .taken); ends = omega (arith, c .before .before .before .before .before .before .find-free .ensures .left, c .before .before .before .before .before .before .find-free .ensures .ends) }
+    let args-data-length = c .before .before .before .before .before .before .before .before .args .data-length in
+    let args-g = c .before .before .before .before .before .before .before .before .args .g in
+    let find-free-ensures = c .before .before .before .before .before .before .find-free .ensures in
+    let available-data-bytes-ensures = c .before .before .before .before .before .available-data-bytes .ensures in
+    let room-given-1 = c .before .before .before .room .given .1 in
+    let e = ap (available args-g) (sym (find-free-ensures .left)) ∙ sym available-data-bytes-ensures ∙ room-given-1 in
+    record {
+      enough = serves-yes args-g _ _ e args-data-length (c .before .if1 .taken);
+      ends = omega (arith, find-free-ensures .left, find-free-ensures .ends);
+    }
 
 enum-told : tie.Need-enum-told
 enum-told c = search needs
 
 returns-2 : tie.Need-returns-2
 returns-2 c =
-    let e = ap (available (c .before .before .before .before .before .before .before .args .g)) (sym (c .before .before .before .before .before .find-free .ensures .left)) ∙ sym (c .before .before .before .before .available-data-bytes .ensures) ∙ c .before .before .room .given .1 in
-    serves-no (c .before .before .before .before .before .before .before .args .g) _ _ e (c .before .before .before .before .before .before .before .args .data-length) (c .if1 .left)
+    let args = c .before .before .before .before .before .before .before .args in
+    let find-free = c .before .before .before .before .before .find-free in
+    let available-data-bytes = c .before .before .before .before .available-data-bytes in
+    let e = ap (available (args .g)) (sym (find-free .ensures .left)) ∙ sym (available-data-bytes .ensures)
+    ∙ c .before .before .room .given .1 in
+    serves-no (args .g) _ _ e (args .data-length) (c .if1 .left)
 
 returns-3 : tie.Need-returns-3
 returns-3 c =
-    let e = ap (available (c .before .before .before .before .before .args .g)) (sym (c .before .before .before .find-free .ensures .left)) ∙ sym (c .before .before .available-data-bytes .ensures) ∙ c .enum-told .given .1 in
-    serves-none (c .before .before .before .before .before .args .g) _ e (c .before .before .before .before .before .args .data-length)
+    let args = c .before .before .before .before .before .args in
+    let find-free = c .before .before .before .find-free in
+    let e = ap (available (args .g)) (sym (find-free .ensures .left)) ∙ sym (c .before .before .available-data-bytes .ensures)
+    ∙ c .enum-told .given .1 in
+    serves-none (args .g) _ e (args .data-length)
 
 pub find-next-free-item-spot-spec : {M : Type 1} → statement M
 find-next-free-item-spot-spec =

@@ -4,16 +4,28 @@ use Rattle.item.proofs.find_spot_in_page.Statement.{statement}
 use Rattle.item.proofs.find_spot_in_page.Tie as tie
 
 page-data-start-address-requires : tie.Need-page-data-start-address-requires
-page-data-start-address-requires c κs = (c .before .pre .0 .good, c .before .pre .1)
+page-data-start-address-requires c κs =
+    let pre = c .before .pre in
+    (pre .0 .good, pre .1)
 
 page-data-end-address-requires : tie.Need-page-data-end-address-requires
-page-data-end-address-requires c κs = (c .before .before .pre .0 .good, c .before .before .pre .1)
+page-data-end-address-requires c κs =
+    let pre = c .before .before .pre in
+    (pre .0 .good, pre .1)
 
 find-next-free-item-spot-requires : tie.Need-find-next-free-item-spot-requires
-find-next-free-item-spot-requires c κs = page-inside (c .before .before .before .args .image .now) (c .before .before .before .pre .0) (c .before .before .before .pre .1) (c .before .page-data-start-address .ensures) (c .page-data-end-address .ensures)
+find-next-free-item-spot-requires c κs =
+    let args = c .before .before .before .args in
+    let pre = c .before .before .before .pre in
+    page-inside (args .image .now) (pre .0) (pre .1) (c .before .page-data-start-address .ensures) (c .page-data-end-address .ensures)
 
 returns : tie.Need-returns
-returns c = page-spot (c .before .before .before .before .args .image .now) (c .before .before .before .before .pre .0) (c .before .before .before .before .pre .1) (c .before .before .page-data-start-address .ensures) (c .before .page-data-end-address .ensures) (c .before .before .before .before .args .data-length) (c .find-next-free-item-spot .result) (c .find-next-free-item-spot .ensures)
+returns c =
+    let args = c .before .before .before .before .args in
+    let pre = c .before .before .before .before .pre in
+    page-spot (args .image .now) (pre .0) (pre .1) (c .before .before .page-data-start-address .ensures)
+    (c .before .page-data-end-address .ensures) (args .data-length) (c .find-next-free-item-spot .result)
+    (c .find-next-free-item-spot .ensures)
 
 pub find-spot-in-page-spec : {M : Type 1} → statement M
 find-spot-in-page-spec =

@@ -25,7 +25,9 @@ cast-i : tie.Need-cast-i Inv-loop μ-loop
 cast-i c = omega arith
 
 array-copy-out-s : tie.Need-array-copy-out-s Inv-loop μ-loop
-array-copy-out-s c = omega (arith, c .before .before .before .pre .0 .few)
+array-copy-out-s c =
+    let pre-0-few = c .before .before .before .pre .0 .few in
+    omega (arith, pre-0-few)
 
 is-same-requires : tie.Need-is-same-requires Inv-loop μ-loop
 is-same-requires c κs = search needs
@@ -33,11 +35,12 @@ is-same-requires c κs = search needs
 returns : tie.Need-returns Inv-loop μ-loop
 unfolding from
 returns c =
+    let args-want = c .before .before .before .before .before .before .args .want in
     let l = c .before .before .before .before .before .loop in
     record {
       is = λ im tb.
           let corrupted = sym (c .before .is-same .ensures) ∙ c .if1 .taken in
-          sym (first-failed tb (c .before .before .before .before .before .before .args .want) (l .left) (l .p .0) (omega arith) (l .inv .0) corrupted) ∙ l .inv .1 im tb;
+          sym (first-failed tb args-want (l .left) (l .p .0) (omega arith) (l .inv .0) corrupted) ∙ l .inv .1 im tb;
       within = λ p e. let z : _≡_ {A = ℕ} 0 1 = cc in absurd (omega arith);
     }
 
@@ -47,17 +50,21 @@ is-same-requires-2 c κs = search needs
 returns-2 : tie.Need-returns-2 Inv-loop μ-loop
 unfolding from
 returns-2 c =
+    let args-want = c .before .before .before .before .before .before .before .before .args .want in
     let l = c .before .before .before .before .before .before .before .loop in
+    let is-same-ensures = c .before .before .before .is-same .ensures in
     record {
       is = λ im tb.
-          let fine = sym (c .before .before .before .is-same .ensures) ∙ c .before .before .if1 .left in
+          let fine = sym is-same-ensures ∙ c .before .before .if1 .left in
           let wanted = sym (c .before .is-same2 .ensures) ∙ c .if2 .taken in
-          sym (first-here tb (c .before .before .before .before .before .before .before .before .args .want) (l .left) (l .p .0) (omega arith) (l .inv .0) fine wanted) ∙ l .inv .1 im tb;
+          sym (first-here tb args-want (l .left) (l .p .0) (omega arith) (l .inv .0) fine wanted) ∙ l .inv .1 im tb;
       within = λ p e. let z : l .p .0 ≡ p = cc in omega arith;
     }
 
 next-page-requires : tie.Need-next-page-requires Inv-loop μ-loop
-next-page-requires c κs = c .before .before .before .before .before .before .before .loop .inv .0
+next-page-requires c κs =
+    let loop = c .before .before .before .before .before .before .before .loop in
+    loop .inv .0
 
 sub-left : tie.Need-sub-left Inv-loop μ-loop
 sub-left c = omega arith
@@ -67,11 +74,16 @@ loop-less c = omega arith
 
 loop-again : tie.Need-loop-again Inv-loop μ-loop
 loop-again c =
+    let args-want = c .before .before .before .before .before .before .before .before .before .args .want in
     let l = c .before .before .before .before .before .before .before .before .loop in
-    let fine = sym (c .before .before .before .before .is-same .ensures) ∙ c .before .before .before .if1 .left in
-    let other = sym (c .before .before .is-same2 .ensures) ∙ c .before .if2 .left in
+    let is-same-ensures = c .before .before .before .before .is-same .ensures in
+    let if1-left = c .before .before .before .if1 .left in
     let e = c .next-page .ensures .0 in
-    (c .next-page .ensures .1, λ im tb. (rw e (sym (first-on tb (c .before .before .before .before .before .before .before .before .before .args .want) (l .left) (l .p .0) (omega arith) (l .inv .0) fine other) ∙ l .inv .1 im tb)))
+    let fine = sym is-same-ensures ∙ if1-left in
+    let other = sym (c .before .before .is-same2 .ensures) ∙ c .before .if2 .left in (
+      c .next-page .ensures .1,
+      λ im tb. (rw e (sym (first-on tb args-want (l .left) (l .p .0) (omega arith) (l .inv .0) fine other) ∙ l .inv .1 im tb)),
+    )
 
 returns-3 : tie.Need-returns-3 Inv-loop μ-loop
 unfolding from

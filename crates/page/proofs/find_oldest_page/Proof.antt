@@ -27,7 +27,10 @@ enum-known-youngest-page : tie.Need-enum-known-youngest-page
 enum-known-youngest-page c = search needs
 
 find-first-page-requires : tie.Need-find-first-page-requires
-find-first-page-requires c κs = (c .before .before .before .before .pre, omega (arith, c .before .before .before .find-youngest-page .ensures .within _ (ap chosenAs (c .before .youngest-page .given .1))))
+find-first-page-requires c κs =
+    let pre = c .before .before .before .before .pre in
+    let find-youngest-page-ensures-within = c .before .before .before .find-youngest-page .ensures .within in
+    (pre, omega (arith, find-youngest-page-ensures-within _ (ap chosenAs (c .before .youngest-page .given .1))))
 
 found-or-requires : tie.Need-found-or-requires
 found-or-requires c κs = search needs
@@ -35,15 +38,18 @@ found-or-requires c κs = search needs
 returns : tie.Need-returns
 unfolding oldest
 returns c =
+    let args = c .before .before .before .args in
     let e = ap chosenAs (c .enum-told .given .1) in
-    sees-on (then (c .before .before .before .args .g)) (c .before .before .find-youngest-page .ensures) e sees-failed
+    sees-on (then (args .g)) (c .before .before .find-youngest-page .ensures) e sees-failed
 
 returns-2 : tie.Need-returns-2
 unfolding oldest
 returns-2 c =
+    let args = c .before .before .before .before .before .before .args in
     let s = c .before .before .before .before .before .find-youngest-page .ensures in
-    let e = ap chosenAs (c .before .before .before .youngest-page .given .1) in
-    sees-on (then (c .before .before .before .before .before .before .args .g)) s e (rw (c .found-or .ensures) (sees-or (c .before .find-first-page .ensures) (sees-page _ (s .within _ e))))
+    let youngest-page = c .before .before .before .youngest-page in
+    let e = ap chosenAs (youngest-page .given .1) in
+    sees-on (then (args .g)) s e (rw (c .found-or .ensures) (sees-or (c .before .find-first-page .ensures) (sees-page _ (s .within _ e))))
 
 pub find-oldest-page-spec : {M : Type 1} → statement M
 find-oldest-page-spec =

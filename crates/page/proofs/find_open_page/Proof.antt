@@ -18,7 +18,10 @@ enum-known-first-closed : tie.Need-enum-known-first-closed
 enum-known-first-closed c = search needs
 
 find-first-page-requires-2 : tie.Need-find-first-page-requires-2
-find-first-page-requires-2 c κs = (c .before .before .before .before .pre, omega (arith, c .before .before .before .find-first-page .ensures .within _ (ap soughtAs (c .before .first-closed .given .1))))
+find-first-page-requires-2 c κs =
+    let pre = c .before .before .before .before .pre in
+    let find-first-page-ensures-within = c .before .before .before .find-first-page .ensures .within in
+    (pre, omega (arith, find-first-page-ensures-within _ (ap soughtAs (c .before .first-closed .given .1))))
 
 found-or-requires : tie.Need-found-or-requires
 found-or-requires c κs = search needs
@@ -29,20 +32,27 @@ enum-told-2 c = search needs
 returns : tie.Need-returns
 unfolding allPages
 returns c =
+    let args = c .before .before .before .args in
     let e = ap soughtAs (c .enum-told .given .1) in
-    sees-on (openFrom (c .before .before .before .args .g)) (c .before .before .find-first-page .ensures) e sees-failed
+    sees-on (openFrom (args .g)) (c .before .before .find-first-page .ensures) e sees-failed
 
 returns-2 : tie.Need-returns-2
 unfolding allPages
 returns-2 c =
-    let e = ap soughtAs (c .before .before .before .first-closed .given .1) in
-    sees-on (openFrom (c .before .before .before .before .before .before .args .g)) (c .before .before .before .before .before .find-first-page .ensures) e (rw (c .found-or .ensures) (sees-or (c .before .find-first-page2 .ensures) sees-failed))
+    let args = c .before .before .before .before .before .before .args in
+    let find-first-page = c .before .before .before .before .before .find-first-page in
+    let first-closed = c .before .before .before .first-closed in
+    let e = ap soughtAs (first-closed .given .1) in
+    sees-on (openFrom (args .g)) (find-first-page .ensures) e
+    (rw (c .found-or .ensures) (sees-or (c .before .find-first-page2 .ensures) sees-failed))
 
 returns-3 : tie.Need-returns-3
 unfolding allPages
 returns-3 c =
+    let args = c .before .before .before .args in
+    let pre = c .before .before .before .pre in
     let e = ap soughtAs (c .enum-told2 .given .1) in
-    sees-on (openFrom (c .before .before .before .args .g)) (c .before .before .find-first-page .ensures) e (sees-page 0 (c .before .before .before .pre .some))
+    sees-on (openFrom (args .g)) (c .before .before .find-first-page .ensures) e (sees-page 0 (pre .some))
 
 pub find-open-page-spec : {M : Type 1} → statement M
 find-open-page-spec =

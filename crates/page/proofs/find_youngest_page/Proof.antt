@@ -29,26 +29,32 @@ enum-told-2 : tie.Need-enum-told-2
 enum-told-2 c = search needs
 
 find-open-page-requires : tie.Need-find-open-page-requires
-find-open-page-requires c κs = c .before .before .before .pre
+find-open-page-requires c κs =
+    let pre = c .before .before .before .pre in
+    pre
 
 returns : tie.Need-returns
 unfolding youngest allPages
 returns c =
+    let args = c .before .before .before .args in
     let e = ap soughtAs (c .enum-told .given .1) in
-    sees-on (then (c .before .before .before .args .g)) (c .before .before .find-first-page .ensures) e sees-failed
+    sees-on (then (args .g)) (c .before .before .find-first-page .ensures) e sees-failed
 
 returns-2 : tie.Need-returns-2
 unfolding youngest allPages
 returns-2 c =
+    let args = c .before .before .before .before .args in
     let s = c .before .before .before .find-first-page .ensures in
     let e = ap soughtAs (c .before .last-used .given .1) in
-    sees-on (then (c .before .before .before .before .args .g)) s e (sees-page _ (s .within _ e))
+    sees-on (then (args .g)) s e (sees-page _ (s .within _ e))
 
 returns-3 : tie.Need-returns-3
 unfolding youngest allPages
 returns-3 c =
+    let args = c .before .before .before .before .args in
+    let find-first-page = c .before .before .before .find-first-page in
     let e = ap soughtAs (c .before .enum-told2 .given .1) in
-    sees-on (then (c .before .before .before .before .args .g)) (c .before .before .before .find-first-page .ensures) e (c .find-open-page .ensures)
+    sees-on (then (args .g)) (find-first-page .ensures) e (c .find-open-page .ensures)
 
 pub find-youngest-page-spec : {M : Type 1} → statement M
 find-youngest-page-spec =

@@ -30,10 +30,14 @@ loop-holds : tie.Need-loop-holds Inv-loop μ-loop
 loop-holds c = (omega arith, omega arith, (rw (add-zero, sub-zero) (omega arith)))
 
 add-b : tie.Need-add-b Inv-loop μ-loop
-add-b c = omega (arith, c .before .before .before .before .before .pre .0 .high)
+add-b c =
+    let pre-0-high = c .before .before .before .before .before .pre .0 .high in
+    omega (arith, pre-0-high)
 
 shared-slice-read-b : tie.Need-shared-slice-read-b Inv-loop μ-loop
-shared-slice-read-b c = omega (arith, c .before .before .before .before .before .before .pre .0 .high)
+shared-slice-read-b c =
+    let pre-0-high = c .before .before .before .before .before .before .pre .0 .high in
+    omega (arith, pre-0-high)
 
 zero-bits-requires : tie.Need-zero-bits-requires Inv-loop μ-loop
 zero-bits-requires c κs = search needs
@@ -43,21 +47,25 @@ add-n c = omega arith
 
 returns : tie.Need-returns Inv-loop μ-loop
 returns c =
-    let l = c .before .before .before .before .before .loop in
     let a = c .before .before .before .before .before .before .before .before .before .args in
+    let l = c .before .before .before .before .before .loop in
     let s = zeros-step (a .image .now) (a .at .0 + l .i) (a .g .word - l .i) (omega arith) (omega arith) in
     sym (four-set (part (a .at .0) (a .g .word) (a .image .now)) (omega (arith, s)))
 
 add-i : tie.Need-add-i Inv-loop μ-loop
-add-i c = omega (arith, c .before .before .before .before .before .before .before .pre .0 .high)
+add-i c =
+    let pre-0-high = c .before .before .before .before .before .before .before .pre .0 .high in
+    omega (arith, pre-0-high)
 
 loop-less : tie.Need-loop-less Inv-loop μ-loop
-loop-less c = omega (arith, c .before .before .before .before .before .before .before .pre .0 .high)
+loop-less c =
+    let pre-0-high = c .before .before .before .before .before .before .before .pre .0 .high in
+    omega (arith, pre-0-high)
 
 loop-again : tie.Need-loop-again Inv-loop μ-loop
 loop-again c =
-    let l = c .before .before .before .loop in
     let a = c .before .before .before .before .before .before .before .args in
+    let l = c .before .before .before .loop in
     let e : a .g .word - l .i - 1 ≡ a .g .word - (l .i + 1) = omega arith in
     let f : a .at .0 + l .i + 1 ≡ a .at .0 + (l .i + 1) = omega arith in
     let s = rw (e, f) at (zeros-step (a .image .now) (a .at .0 + l .i) (a .g .word - l .i) (omega arith) (omega arith)) in
@@ -68,8 +76,8 @@ loop-again c =
 
 returns-2 : tie.Need-returns-2 Inv-loop μ-loop
 returns-2 c =
-    let l = c .before .loop in
     let a = c .before .before .before .before .before .args in
+    let l = c .before .loop in
     let z : a .g .word - l .i ≡ 0 = omega arith in
     sym (few-unset (part (a .at .0) (a .g .word) (a .image .now)) (omega (arith, zeros-none, rw z at (l .inv .2))))
 

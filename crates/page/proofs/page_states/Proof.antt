@@ -19,25 +19,38 @@ loop-holds : tie.Need-loop-holds Inv-loop μ-loop
 loop-holds c = (omega arith, refl, λ q h. absurd (omega arith))
 
 get-page-state-requires : tie.Need-get-page-state-requires Inv-loop μ-loop
-get-page-state-requires c κs = (c .before .before .before .before .pre, omega arith)
+get-page-state-requires c κs =
+    let pre = c .before .before .before .before .pre in
+    (pre, omega arith)
 
 cast-i : tie.Need-cast-i Inv-loop μ-loop
-cast-i c = omega (arith, c .before .before .before .before .before .pre .good .few)
+cast-i c =
+    let pre-good-few = c .before .before .before .before .before .pre .good .few in
+    omega (arith, pre-good-few)
 
 array-set-from-table : tie.Need-array-set-from-table Inv-loop μ-loop
-array-set-from-table c = omega (arith, c .before .before .before .before .before .pre .good .few)
+array-set-from-table c =
+    let pre-good-few = c .before .before .before .before .before .pre .good .few in
+    omega (arith, pre-good-few)
 
 add-p : tie.Need-add-p Inv-loop μ-loop
-add-p c = omega (arith, c .before .before .before .before .before .pre .good .few)
+add-p c =
+    let pre-good-few = c .before .before .before .before .before .pre .good .few in
+    omega (arith, pre-good-few)
 
 loop-less : tie.Need-loop-less Inv-loop μ-loop
-loop-less c = omega (arith, c .before .before .before .before .before .pre .good .few)
+loop-less c =
+    let pre-good-few = c .before .before .before .before .before .pre .good .few in
+    omega (arith, pre-good-few)
 
 loop-again : tie.Need-loop-again Inv-loop μ-loop
 loop-again c =
-    let l = c .before .before .before .loop in
     let a = c .before .before .before .before .before .args in
-    (omega arith, (simp length-set (l .inv .1)), table-set (a .g) (a .image .now) (l .table) (l .p) _ (omega arith) (c .get-page-state .ensures) (l .inv .2))
+    let l = c .before .before .before .loop in (
+      omega arith,
+      (simp length-set (l .inv .1)),
+      table-set (a .g) (a .image .now) (l .table) (l .p) _ (omega arith) (c .get-page-state .ensures) (l .inv .2),
+    )
 
 returns : tie.Need-returns Inv-loop μ-loop
 returns c =

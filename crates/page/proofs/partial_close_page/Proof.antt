@@ -12,15 +12,20 @@ is-same-requires : tie.Need-is-same-requires
 is-same-requires c κs = search needs
 
 mark-start-requires : tie.Need-mark-start-requires
-mark-start-requires c κs = c .before .before .before .before .before .before .pre
+mark-start-requires c κs =
+    let pre = c .before .before .before .before .before .before .pre in
+    pre
 
 same-length : tie.Need-same-length
 same-length c = search needs
 
 returns : tie.Need-returns
 returns c =
-    let e = sym (c .before .before .before .before .before .is-same .ensures) ∙ c .before .before .before .before .if1 .taken in
-    rw (← c .before .before .before .before .before .before .get-page-state .ensures, e) (c .before .before .mark-start .ensures)
+    let get-page-state = c .before .before .before .before .before .before .get-page-state in
+    let is-same = c .before .before .before .before .before .is-same in
+    let if1 = c .before .before .before .before .if1 in
+    let e = sym (is-same .ensures) ∙ if1 .taken in
+    rw (← get-page-state .ensures, e) (c .before .before .mark-start .ensures)
 
 same-length-2 : tie.Need-same-length-2
 same-length-2 c = search needs

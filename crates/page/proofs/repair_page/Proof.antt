@@ -13,7 +13,9 @@ is-same-requires : tie.Need-is-same-requires
 is-same-requires c κs = search needs
 
 open-page-requires : tie.Need-open-page-requires
-open-page-requires c κs = c .before .before .before .before .before .before .pre
+open-page-requires c κs =
+    let pre = c .before .before .before .before .before .before .pre in
+    pre
 
 same-length : tie.Need-same-length
 same-length c = search needs
@@ -21,8 +23,11 @@ same-length c = search needs
 returns : tie.Need-returns
 returns c =
     let a = c .before .before .before .before .before .before .before .before .before .args in
-    let e = sym (c .before .before .before .before .before .is-same .ensures) ∙ c .before .before .before .before .if1 .taken in
-    rw (repairs-page (a .g) (a .image .now) (a .p .0) _ (c .before .before .before .before .before .before .get-page-state .ensures) e) (c .before .before .open-page .ensures)
+    let get-page-state = c .before .before .before .before .before .before .get-page-state in
+    let is-same = c .before .before .before .before .before .is-same in
+    let if1 = c .before .before .before .before .if1 in
+    let e = sym (is-same .ensures) ∙ if1 .taken in
+    rw (repairs-page (a .g) (a .image .now) (a .p .0) _ (get-page-state .ensures) e) (c .before .before .open-page .ensures)
 
 same-length-2 : tie.Need-same-length-2
 same-length-2 c = search needs

@@ -27,17 +27,23 @@ unfolding repair
 loop-holds c = (refl, omega arith, λ q l h. refl, λ o r x. (rw (order-first (c .before .args .g)) x))
 
 repair-page-requires : tie.Need-repair-page-requires Inv-loop μ-loop
-repair-page-requires c κs = ((rw (c .before .before .before .loop .inv .0) (c .before .before .before .before .before .pre)), omega arith)
+repair-page-requires c κs =
+    let pre = c .before .before .before .before .before .pre in
+    let loop-inv-0 = c .before .before .before .loop .inv .0 in
+    ((rw loop-inv-0 pre), omega arith)
 
 same-length : tie.Need-same-length Inv-loop μ-loop
-same-length c = c .before .before .before .repair-page .kept .0 ∙ c .before .before .before .before .before .before .before .loop .inv .0
+same-length c =
+    let loop = c .before .before .before .before .before .before .before .loop in
+    let repair-page = c .before .before .before .repair-page in
+    repair-page .kept .0 ∙ loop .inv .0
 
 returns : tie.Need-returns Inv-loop μ-loop
 returns c =
-    let l = c .before .before .before .before .before .before .before .loop in
     let a = c .before .before .before .before .before .before .before .before .before .args in
-    let s = l .inv .2 (l .p) (omega arith) (omega arith) in
+    let l = c .before .before .before .before .before .before .before .loop in
     let d = c .before .before .before .repair-page .ensures in
+    let s = l .inv .2 (l .p) (omega arith) (omega arith) in
     l .inv .3 _ _ (rw (order-next (a .g) (l .p) (omega arith)) (repairs-cut (a .image .now) (l .p) _ s d (c .if2 .taken)))
 
 add-p : tie.Need-add-p Inv-loop μ-loop
@@ -48,18 +54,21 @@ loop-less c = omega arith
 
 loop-again : tie.Need-loop-again Inv-loop μ-loop
 loop-again c =
-    let l = c .before .before .before .before .before .before .before .before .loop in
-    let im = c .before .before .before .before .before .before .before .before .before .before .args .image .now in
     let g = c .before .before .before .before .before .before .before .before .before .before .args .g in
-    let w = rw (← l .inv .0) at (c .before .before .before .before .before .before .before .before .before .before .pre) in
-    let s = l .inv .2 (l .p) (omega arith) (omega arith) in
-    let d = c .before .before .before .before .repair-page .ensures in (
-      c .before .before .before .before .repair-page .kept .0 ∙ l .inv .0,
+    let im = c .before .before .before .before .before .before .before .before .before .before .args .image .now in
+    let pre = c .before .before .before .before .before .before .before .before .before .before .pre in
+    let l = c .before .before .before .before .before .before .before .before .loop in
+    let d = c .before .before .before .before .repair-page .ensures in
+    let repair-page-kept-0 = c .before .before .before .before .repair-page .kept .0 in
+    let if2-left = c .before .if2 .left in
+    let w = rw (← l .inv .0) at pre in
+    let s = l .inv .2 (l .p) (omega arith) (omega arith) in (
+      repair-page-kept-0 ∙ l .inv .0,
       omega arith,
-      λ q k h. ap (λ (x : List ℕ). state g x q) (did-image d (c .before .if2 .left))
+      λ q k h. ap (λ (x : List ℕ). state g x q) (did-image d if2-left)
           ∙ repairs-elsewhere g (l .image) w (l .p) q (omega arith) h (λ e. omega arith)
           ∙ l .inv .2 q (omega arith) h,
-      λ o r y. l .inv .3 o r (rw (order-next g (l .p) (omega arith)) (repairs-on im (l .p) _ s d (c .before .if2 .left) y)),
+      λ o r y. l .inv .3 o r (rw (order-next g (l .p) (omega arith)) (repairs-on im (l .p) _ s d if2-left y)),
     )
 
 same-length-2 : tie.Need-same-length-2 Inv-loop μ-loop
@@ -67,9 +76,10 @@ same-length-2 c = c .before .before .loop .inv .0
 
 returns-2 : tie.Need-returns-2 Inv-loop μ-loop
 returns-2 c =
-    let l = c .before .before .loop in
     let g = c .before .before .before .before .args .g in
-    l .inv .3 _ _ (rw (order-last g (l .p) (omega arith), repairs-none g (c .before .before .before .before .args .image .now)) (did-none g (l .budget) (l .image)))
+    let args-image-now = c .before .before .before .before .args .image .now in
+    let l = c .before .before .loop in
+    l .inv .3 _ _ (rw (order-last g (l .p) (omega arith), repairs-none g args-image-now) (did-none g (l .budget) (l .image)))
 
 pub try-general-repair-spec : {M : Type 1} → statement M
 try-general-repair-spec =

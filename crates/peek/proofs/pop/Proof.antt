@@ -9,7 +9,9 @@ use Rattle.peek.proofs.pop.Statement.{statement}
 use Rattle.peek.proofs.pop.Tie as tie
 
 search-requires : tie.Need-search-requires
-search-requires c κs = c .before .before .before .before .pre
+search-requires c κs =
+    let pre = c .before .before .before .before .pre in
+    pre
 
 shown-by-requires : tie.Need-shown-by-requires
 shown-by-requires c κs = search needs
@@ -22,7 +24,9 @@ same-length-2 c = search needs
 
 returns : tie.Need-returns
 unfolding calls.pop
-returns c = showed-bind-cut _ (c .before .before .before .before .before .before .before .search .ensures .shows) _ (c .if1 .taken)
+returns c =
+    let the-search = c .before .before .before .before .before .before .before .search in
+    showed-bind-cut _ (the-search .ensures .shows) _ (c .if1 .taken)
 
 pop-found-requires : tie.Need-pop-found-requires
 pop-found-requires c κs = search needs
@@ -35,7 +39,15 @@ same-length-4 c = search needs
 
 returns-2 : tie.Need-returns-2
 unfolding calls.pop
-returns-2 c = rw (c .before .before .before .before .before .shown-by .ensures (c .before .before .before .before .before .before .before .before .before .before .before .before .before .before .before .before .args .g) (c .before .before .before .before .before .before .before .before .before .before .before .search .last .0)) (showed-bind-then _ (c .before .before .before .before .before .before .before .before .before .before .before .search .ensures .shows) (c .before .before .before .before .if1 .left) (showed-plan _ (acted-quiet _ (popped-quiet (c .before .before .before .before .before .before .before .before .before .before .before .before .before .before .before .before .args .g) (foundAs (c .before .before .before .before .before .before .before .before .before .before .before .before .before .before .before .before .args .g) (c .before .before .before .before .before .before .before .before .before .before .before .search .last .0) (c .before .before .before .before .before .before .before .before .before .before .before .search .result .found))) (c .before .before .pop-found .ensures))))
+returns-2 c =
+    let args = c .before .before .before .before .before .before .before .before .before .before .before .before .before .before .before .before .args in
+    let the-search = c .before .before .before .before .before .before .before .before .before .before .before .search in
+    let shown-by = c .before .before .before .before .before .shown-by in
+    let if1 = c .before .before .before .before .if1 in
+    rw (shown-by .ensures (args .g) (the-search .last .0))
+    (showed-bind-then _ (the-search .ensures .shows) (if1 .left)
+    (showed-plan _ (acted-quiet _ (popped-quiet (args .g) (foundAs (args .g) (the-search .last .0) (the-search .result .found)))
+    (c .before .before .pop-found .ensures))))
 
 pub pop-spec : {M : Type 1} → statement M
 pop-spec =

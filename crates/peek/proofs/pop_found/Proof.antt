@@ -9,16 +9,23 @@ enum-known-found : tie.Need-enum-known-found
 enum-known-found c = search needs
 
 returns : tie.Need-returns
-returns c = rw (not-present (c .before .before .args .g) (c .before .before .args .image .now) (c .before .before .args .found) (c .match .keys2)) (did-none (c .before .before .args .g) (c .before .before .args .b) (c .before .before .args .image .now))
+returns c =
+    let args = c .before .before .args in
+    rw (not-present (args .g) (args .image .now) (args .found) (c .match .keys2)) (did-none (args .g) (args .b) (args .image .now))
 
 erase-data-requires : tie.Need-erase-data-requires
-erase-data-requires c κs = rw (c .before .before .before .before .found .given .1) at (c .before .before .before .before .before .before .before .pre)
+erase-data-requires c κs =
+    let pre = c .before .before .before .before .before .before .before .pre in
+    let found = c .before .before .before .before .found in
+    rw (found .given .1) at pre
 
 same-length : tie.Need-same-length
 same-length c = search needs
 
 returns-2 : tie.Need-returns-2
-returns-2 c = rw (c .before .before .before .before .before .before .before .found .given .1) (c .before .before .erase-data .ensures)
+returns-2 c =
+    let found = c .before .before .before .before .before .before .before .found in
+    rw (found .given .1) (c .before .before .erase-data .ensures)
 
 pub pop-found-spec : {M : Type 1} → statement M
 pop-found-spec =

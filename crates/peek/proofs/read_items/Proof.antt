@@ -16,7 +16,8 @@ use Rattle.peek.proofs.read_items.Tie as tie
 
 abbrev Inv-loop : tie.InvT-loop
 Inv-loop image buffer₀ g end start buffer from = Inside g (length image) (from .0) (end .0) × (end .0 < 4294967296) × (length buffer ≡ length buffer₀)
-    × ((e : List ℕ) (x : Met) → Copied g (reading g image (end .0) (length buffer₀) (from .0)) image buffer e x → Copied g (reading g image (end .0) (length buffer₀) (start .0)) image buffer₀ e x)
+    × ((e : List ℕ) (x : Met) → Copied g (reading g image (end .0) (length buffer₀) (from .0)) image buffer e x
+    → Copied g (reading g image (end .0) (length buffer₀) (start .0)) image buffer₀ e x)
 
 abbrev μ-loop : tie.MeasureT-loop
 μ-loop image buffer₀ g end start buffer from = end .0 - from .0
@@ -31,51 +32,99 @@ enum-told : tie.Need-enum-told Inv-loop μ-loop
 enum-told c = search needs
 
 same-length : tie.Need-same-length Inv-loop μ-loop
-same-length c = c .before .before .before .loop .inv .2
+same-length c =
+    let loop = c .before .before .before .loop in
+    loop .inv .2
 
 returns : tie.Need-returns Inv-loop μ-loop
-returns c = record { shows = c .before .before .before .loop .inv .3 _ _ (none-read (c .before .before .before .before .before .before .args .g) (c .before .before .before .before .before .before .args .image .now) _ _ _ (c .before .before .before .loop .buffer) (none-of _ _ _ _ _ (c .before .before .next-live .ensures) (c .enum-told .given .1))); within = tt }
+returns c =
+    let args = c .before .before .before .before .before .before .args in
+    let loop = c .before .before .before .loop in
+    record {
+      shows = loop .inv .3 _ _
+          (none-read (args .g) (args .image .now) _ _ _ (loop .buffer)
+          (none-of _ _ _ _ _ (c .before .before .next-live .ensures) (c .enum-told .given .1)));
+      within = tt;
+    }
 
 enum-known-next : tie.Need-enum-known-next Inv-loop μ-loop
 enum-known-next c = search needs
 
 read-item-requires : tie.Need-read-item-requires Inv-loop μ-loop
 read-item-requires c κs =
-    let r = reaches-of _ _ _ _ _ (c .before .before .before .before .before .before .next-live .ensures) _ (c .before .before .before .before .next .given .1) in
-    first-in (c .before .before .before .before .before .before .before .before .before .before .args .g) (c .before .before .before .before .before .before .before .before .before .before .args .image .now) _ (length (c .before .before .before .before .before .before .before .before .before .before .args .buffer .now)) (c .before .before .before .before .before .before .before .loop .inv .0) (c .before .before .before .before .before .before .before .loop .inv .1) r
+    let args = c .before .before .before .before .before .before .before .before .before .before .args in
+    let loop = c .before .before .before .before .before .before .before .loop in
+    let next-live = c .before .before .before .before .before .before .next-live in
+    let next = c .before .before .before .before .next in
+    let r = reaches-of _ _ _ _ _ (next-live .ensures) _ (next .given .1) in
+    first-in (args .g) (args .image .now) _ (length (args .buffer .now)) (loop .inv .0) (loop .inv .1) r
 
 enum-told-2 : tie.Need-enum-told-2 Inv-loop μ-loop
 enum-told-2 c = search needs
 
 same-length-2 : tie.Need-same-length-2 Inv-loop μ-loop
-same-length-2 c = c .before .before .before .before .read-item .kept .1 .1 .0 ∙ c .before .before .before .before .before .before .before .before .before .before .before .before .loop .inv .2
+same-length-2 c =
+    let loop = c .before .before .before .before .before .before .before .before .before .before .before .before .loop in
+    let read-item = c .before .before .before .before .read-item in
+    read-item .kept .1 .1 .0 ∙ loop .inv .2
 
 returns-2 : tie.Need-returns-2 Inv-loop μ-loop
 returns-2 c =
-    let r = reaches-of _ _ _ _ _ (c .before .before .before .before .before .before .before .before .before .before .before .next-live .ensures) _ (c .before .before .before .before .before .before .before .before .before .next .given .1) in
-    record { shows = c .before .before .before .before .before .before .before .before .before .before .before .before .loop .inv .3 _ _ (present-read (c .before .before .before .before .before .before .before .before .before .before .before .before .before .before .before .args .g) (c .before .before .before .before .before .before .before .before .before .before .before .before .before .before .before .args .image .now) _ _ _ _ r (c .before .before .before .before .before .before .before .before .before .before .before .before .loop .buffer) _ (c .before .before .before .before .before .before .before .before .before .before .before .before .loop .inv .2) _ (c .before .before .before .before .read-item .ensures) _ (c .enum-told2 .given .1)); within = first-in (c .before .before .before .before .before .before .before .before .before .before .before .before .before .before .before .args .g) (c .before .before .before .before .before .before .before .before .before .before .before .before .before .before .before .args .image .now) _ (length (c .before .before .before .before .before .before .before .before .before .before .before .before .before .before .before .args .buffer .now)) (c .before .before .before .before .before .before .before .before .before .before .before .before .loop .inv .0) (c .before .before .before .before .before .before .before .before .before .before .before .before .loop .inv .1) r }
+    let args = c .before .before .before .before .before .before .before .before .before .before .before .before .before .before .before .args in
+    let loop = c .before .before .before .before .before .before .before .before .before .before .before .before .loop in
+    let next-live = c .before .before .before .before .before .before .before .before .before .before .before .next-live in
+    let next = c .before .before .before .before .before .before .before .before .before .next in
+    let read-item = c .before .before .before .before .read-item in
+    let r = reaches-of _ _ _ _ _ (next-live .ensures) _ (next .given .1) in
+    record {
+      shows = loop .inv .3 _ _
+          (present-read (args .g) (args .image .now) _ _ _ _ r (loop .buffer) _ (loop .inv .2) _ (read-item .ensures) _
+          (c .enum-told2 .given .1));
+      within = first-in (args .g) (args .image .now) _ (length (args .buffer .now)) (loop .inv .0) (loop .inv .1) r;
+    }
 
 enum-known-read : tie.Need-enum-known-read Inv-loop μ-loop
 enum-known-read c = search needs
 
 same-length-3 : tie.Need-same-length-3 Inv-loop μ-loop
-same-length-3 c = c .before .before .before .before .before .read-item .kept .1 .1 .0 ∙ c .before .before .before .before .before .before .before .before .before .before .before .before .before .loop .inv .2
+same-length-3 c =
+    let loop = c .before .before .before .before .before .before .before .before .before .before .before .before .before .loop in
+    let read-item = c .before .before .before .before .before .read-item in
+    read-item .kept .1 .1 .0 ∙ loop .inv .2
 
 returns-3 : tie.Need-returns-3 Inv-loop μ-loop
 returns-3 c =
-    let r = reaches-of _ _ _ _ _ (c .before .before .before .before .before .before .before .before .before .before .before .before .next-live .ensures) _ (c .before .before .before .before .before .before .before .before .before .before .next .given .1) in
-    record { shows = c .before .before .before .before .before .before .before .before .before .before .before .before .before .loop .inv .3 _ _ (small-read (c .before .before .before .before .before .before .before .before .before .before .before .before .before .before .before .before .args .g) (c .before .before .before .before .before .before .before .before .before .before .before .before .before .before .before .before .args .image .now) _ _ _ _ r (c .before .before .before .before .before .before .before .before .before .before .before .before .before .loop .buffer) _ (c .before .before .before .before .before .before .before .before .before .before .before .before .before .loop .inv .2) _ (c .before .before .before .before .before .read-item .ensures) _ (c .before .read .given .1)); within = tt }
+    let args = c .before .before .before .before .before .before .before .before .before .before .before .before .before .before .before .before .args in
+    let loop = c .before .before .before .before .before .before .before .before .before .before .before .before .before .loop in
+    let next-live = c .before .before .before .before .before .before .before .before .before .before .before .before .next-live in
+    let next = c .before .before .before .before .before .before .before .before .before .before .next in
+    let read-item = c .before .before .before .before .before .read-item in
+    let r = reaches-of _ _ _ _ _ (next-live .ensures) _ (next .given .1) in
+    record {
+      shows = loop .inv .3 _ _
+          (small-read (args .g) (args .image .now) _ _ _ _ r (loop .buffer) _ (loop .inv .2) _ (read-item .ensures) _
+          (c .before .read .given .1));
+      within = tt;
+    }
 
 enum-told-3 : tie.Need-enum-told-3 Inv-loop μ-loop
 enum-told-3 c = search needs
 
 logic-bug-requires : tie.Need-logic-bug-requires Inv-loop μ-loop
 logic-bug-requires c κs =
-    let r = reaches-of _ _ _ _ _ (c .before .before .before .before .before .before .before .before .before .before .before .next-live .ensures) _ (c .before .before .before .before .before .before .before .before .before .next .given .1) in
-    not-popped (c .before .before .before .before .before .before .before .before .before .before .before .before .before .before .before .args .g) (c .before .before .before .before .before .before .before .before .before .before .before .before .before .before .before .args .image .now) _ _ _ _ r (c .before .before .before .before .before .before .before .before .before .before .before .before .loop .buffer) _ (c .before .before .before .before .before .before .before .before .before .before .before .before .loop .inv .2) _ (c .before .before .before .before .read-item .ensures) _ (c .enum-told3 .given .1)
+    let args = c .before .before .before .before .before .before .before .before .before .before .before .before .before .before .before .args in
+    let loop = c .before .before .before .before .before .before .before .before .before .before .before .before .loop in
+    let next-live = c .before .before .before .before .before .before .before .before .before .before .before .next-live in
+    let next = c .before .before .before .before .before .before .before .before .before .next in
+    let read-item = c .before .before .before .before .read-item in
+    let r = reaches-of _ _ _ _ _ (next-live .ensures) _ (next .given .1) in
+    not-popped (args .g) (args .image .now) _ _ _ _ r (loop .buffer) _ (loop .inv .2) _ (read-item .ensures) _ (c .enum-told3 .given .1)
 
 same-length-4 : tie.Need-same-length-4 Inv-loop μ-loop
-same-length-4 c = c .before .before .before .before .before .read-item .kept .1 .1 .0 ∙ c .before .before .before .before .before .before .before .before .before .before .before .before .before .loop .inv .2
+same-length-4 c =
+    let loop = c .before .before .before .before .before .before .before .before .before .before .before .before .before .loop in
+    let read-item = c .before .before .before .before .before .read-item in
+    read-item .kept .1 .1 .0 ∙ loop .inv .2
 
 returns-4 : tie.Need-returns-4 Inv-loop μ-loop
 returns-4 c = absurd (c .logic-bug .ensures)
@@ -85,23 +134,40 @@ enum-told-4 c = search needs
 
 next-item-address-requires : tie.Need-next-item-address-requires Inv-loop μ-loop
 next-item-address-requires c κs =
-    let r = reaches-of _ _ _ _ _ (c .before .before .before .before .before .before .before .before .before .before .before .next-live .ensures) _ (c .before .before .before .before .before .before .before .before .before .next .given .1) in
-    (c .before .before .before .before .before .before .before .before .before .before .before .before .before .before .before .pre .good, (first-in (c .before .before .before .before .before .before .before .before .before .before .before .before .before .before .before .args .g) (c .before .before .before .before .before .before .before .before .before .before .before .before .before .before .before .args .image .now) _ (length (c .before .before .before .before .before .before .before .before .before .before .before .before .before .before .before .args .buffer .now)) (c .before .before .before .before .before .before .before .before .before .before .before .before .loop .inv .0) (c .before .before .before .before .before .before .before .before .before .before .before .before .loop .inv .1) r) .top)
+    let args = c .before .before .before .before .before .before .before .before .before .before .before .before .before .before .before .args in
+    let pre = c .before .before .before .before .before .before .before .before .before .before .before .before .before .before .before .pre in
+    let loop = c .before .before .before .before .before .before .before .before .before .before .before .before .loop in
+    let next-live = c .before .before .before .before .before .before .before .before .before .before .before .next-live in
+    let next = c .before .before .before .before .before .before .before .before .before .next in
+    let r = reaches-of _ _ _ _ _ (next-live .ensures) _ (next .given .1) in
+    (pre .good, (first-in (args .g) (args .image .now) _ (length (args .buffer .now)) (loop .inv .0) (loop .inv .1) r) .top)
 
 loop-less : tie.Need-loop-less Inv-loop μ-loop
 loop-less c =
-    let r = reaches-of _ _ _ _ _ (c .before .before .before .before .before .before .before .before .before .before .before .before .next-live .ensures) _ (c .before .before .before .before .before .before .before .before .before .before .next .given .1) in
-    omega (arith, r .fits, r .order, c .next-item-address .ensures, c .before .before .before .before .before .before .before .before .before .before .before .before .before .before .before .before .pre .good .header-low)
+    let pre-good-header-low = c .before .before .before .before .before .before .before .before .before .before .before .before .before .before .before .before
+    .pre .good .header-low in
+    let next-live-ensures = c .before .before .before .before .before .before .before .before .before .before .before .before .next-live .ensures in
+    let next-given-1 = c .before .before .before .before .before .before .before .before .before .before .next .given .1 in
+    let r = reaches-of _ _ _ _ _ next-live-ensures _ next-given-1 in
+    omega (arith, r .fits, r .order, c .next-item-address .ensures, pre-good-header-low)
 
 loop-again : tie.Need-loop-again Inv-loop μ-loop
 loop-again c =
+    let args-g = c .before .before .before .before .before .before .before .before .before .before .before .before .before .before .before .before .args .g in
+    let args-image-now = c .before .before .before .before .before .before .before .before .before .before .before .before .before .before .before .before .args
+    .image .now in
     let l = c .before .before .before .before .before .before .before .before .before .before .before .before .before .loop in
-    let r = reaches-of _ _ _ _ _ (c .before .before .before .before .before .before .before .before .before .before .before .before .next-live .ensures) _ (c .before .before .before .before .before .before .before .before .before .before .next .given .1) in
-    let e = c .next-item-address .ensures in (
+    let next-live-ensures = c .before .before .before .before .before .before .before .before .before .before .before .before .next-live .ensures in
+    let next-given-1 = c .before .before .before .before .before .before .before .before .before .before .next .given .1 in
+    let read-item-ensures = c .before .before .before .before .before .read-item .ensures in
+    let read-item-kept-1-1-0 = c .before .before .before .before .before .read-item .kept .1 .1 .0 in
+    let e = c .next-item-address .ensures in
+    let r = reaches-of _ _ _ _ _ next-live-ensures _ next-given-1 in (
       inside-on (l .inv .0) (omega (arith, r .fits, e)),
       l .inv .1,
-      c .before .before .before .before .before .read-item .kept .1 .1 .0 ∙ l .inv .2,
-      λ f x v. l .inv .3 f x (torn-read (c .before .before .before .before .before .before .before .before .before .before .before .before .before .before .before .before .args .g) (c .before .before .before .before .before .before .before .before .before .before .before .before .before .before .before .before .args .image .now) _ _ _ _ r (l .buffer) _ (l .inv .2) _ (c .before .before .before .before .before .read-item .ensures) _ (c .before .enum-told4 .given .1) (rw e at v)),
+      read-item-kept-1-1-0 ∙ l .inv .2,
+      λ f x v. l .inv .3 f x (torn-read args-g args-image-now _ _ _ _ r (l .buffer) _ (l .inv .2) _ read-item-ensures _
+          (c .before .enum-told4 .given .1) (rw e at v)),
     )
 
 pub read-items-spec : {M : Type 1} → statement M

@@ -9,13 +9,21 @@ use Rattle.peek.proofs.read_page.Statement.{statement}
 use Rattle.peek.proofs.read_page.Tie as tie
 
 calculate-page-index-requires : tie.Need-calculate-page-index-requires
-calculate-page-index-requires c κs = (c .before .before .pre .0 .good, c .before .before .pre .1 .low, c .before .before .pre .1 .high)
+calculate-page-index-requires c κs =
+    let pre = c .before .before .pre in
+    (pre .0 .good, pre .1 .low, pre .1 .high)
 
 page-data-end-address-requires : tie.Need-page-data-end-address-requires
-page-data-end-address-requires c κs = (c .before .before .before .pre .0 .good, c .calculate-page-index .ensures .1)
+page-data-end-address-requires c κs =
+    let pre = c .before .before .before .pre in
+    (pre .0 .good, c .calculate-page-index .ensures .1)
 
 read-items-requires : tie.Need-read-items-requires
-read-items-requires c κs = left-inside (c .before .before .before .before .before .pre .0) (c .before .before .calculate-page-index .ensures .1) (c .before .before .calculate-page-index .ensures .0) (c .before .before .before .before .before .pre .1) (c .before .page-data-end-address .ensures)
+read-items-requires c κs =
+    let pre = c .before .before .before .before .before .pre in
+    let calculate-page-index = c .before .before .calculate-page-index in
+    left-inside (pre .0) (calculate-page-index .ensures .1) (calculate-page-index .ensures .0) (pre .1)
+    (c .before .page-data-end-address .ensures)
 
 enum-told : tie.Need-enum-told
 enum-told c = search needs
@@ -30,19 +38,47 @@ same-length : tie.Need-same-length
 same-length c = search needs
 
 returns : tie.Need-returns
-returns c = record { shows = page-read (c .before .before .before .before .before .before .before .before .before .before .args .g) (c .before .before .before .before .before .before .before .before .before .before .args .image .now) (c .before .before .before .before .before .before .before .before .before .before .args .address .0) _ passed (c .before .before .before .before .before .before .before .calculate-page-index .ensures .0) (c .before .before .before .before .before .before .page-data-end-address .ensures) (c .before .before .before .before .read-items .ensures .shows) (ap (metAs (c .before .before .before .before .before .before .before .before .before .before .args .g) _) (c .enum-told .given .1)); within = c .before .before .before .before .before .before .before .calculate-page-index .ensures .1 }
+returns c =
+    let args = c .before .before .before .before .before .before .before .before .before .before .args in
+    let calculate-page-index = c .before .before .before .before .before .before .before .calculate-page-index in
+    let page-data-end-address = c .before .before .before .before .before .before .page-data-end-address in
+    let read-items = c .before .before .before .before .read-items in
+    record {
+      shows = page-read (args .g) (args .image .now) (args .address .0) _ passed (calculate-page-index .ensures .0)
+          (page-data-end-address .ensures) (read-items .ensures .shows) (ap (metAs (args .g) _) (c .enum-told .given .1));
+      within = calculate-page-index .ensures .1;
+    }
 
 same-length-2 : tie.Need-same-length-2
 same-length-2 c = search needs
 
 returns-2 : tie.Need-returns-2
-returns-2 c = record { shows = page-read (c .before .before .before .before .before .before .before .before .before .before .before .args .g) (c .before .before .before .before .before .before .before .before .before .before .before .args .image .now) (c .before .before .before .before .before .before .before .before .before .before .before .args .address .0) _ (long _) (c .before .before .before .before .before .before .before .before .calculate-page-index .ensures .0) (c .before .before .before .before .before .before .before .page-data-end-address .ensures) (c .before .before .before .before .before .read-items .ensures .shows) (ap (metAs (c .before .before .before .before .before .before .before .before .before .before .before .args .g) _) (c .before .met .given .1)); within = tt }
+returns-2 c =
+    let args = c .before .before .before .before .before .before .before .before .before .before .before .args in
+    let calculate-page-index = c .before .before .before .before .before .before .before .before .calculate-page-index in
+    let page-data-end-address = c .before .before .before .before .before .before .before .page-data-end-address in
+    let read-items = c .before .before .before .before .before .read-items in
+    record {
+      shows = page-read (args .g) (args .image .now) (args .address .0) _ (long _) (calculate-page-index .ensures .0)
+          (page-data-end-address .ensures) (read-items .ensures .shows) (ap (metAs (args .g) _) (c .before .met .given .1));
+      within = tt;
+    }
 
 same-length-3 : tie.Need-same-length-3
 same-length-3 c = search needs
 
 returns-3 : tie.Need-returns-3
-returns-3 c = record { shows = page-read (c .before .before .before .before .before .before .before .before .before .before .before .args .g) (c .before .before .before .before .before .before .before .before .before .before .before .args .image .now) (c .before .before .before .before .before .before .before .before .before .before .before .args .address .0) _ (met _) (c .before .before .before .before .before .before .before .before .calculate-page-index .ensures .0) (c .before .before .before .before .before .before .before .page-data-end-address .ensures) (c .before .before .before .before .before .read-items .ensures .shows) (ap (metAs (c .before .before .before .before .before .before .before .before .before .before .before .args .g) _) (c .before .met2 .given .1)); within = (rw (c .before .met2 .given .1) at (c .before .before .before .before .before .read-items .ensures .within)) }
+returns-3 c =
+    let args = c .before .before .before .before .before .before .before .before .before .before .before .args in
+    let calculate-page-index = c .before .before .before .before .before .before .before .before .calculate-page-index in
+    let page-data-end-address = c .before .before .before .before .before .before .before .page-data-end-address in
+    let read-items = c .before .before .before .before .before .read-items in
+    let met2 = c .before .met2 in
+    record {
+      shows = page-read (args .g) (args .image .now) (args .address .0) _ (met _) (calculate-page-index .ensures .0)
+          (page-data-end-address .ensures) (read-items .ensures .shows) (ap (metAs (args .g) _) (met2 .given .1));
+      within = (rw (met2 .given .1) at (read-items .ensures .within));
+    }
 
 pub read-page-spec : {M : Type 1} → statement M
 read-page-spec =

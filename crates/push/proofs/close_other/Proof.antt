@@ -6,16 +6,22 @@ use Rattle.push.proofs.close_other.Statement.{statement}
 use Rattle.push.proofs.close_other.Tie as tie
 
 returns : tie.Need-returns
-returns c = rw (eq-eqb _ _ (c .if1 .taken)) (did-none (c .before .before .before .before .args .g) (c .before .before .before .before .args .b) (c .before .before .before .before .args .image .now))
+returns c =
+    let args = c .before .before .before .before .args in
+    rw (eq-eqb _ _ (c .if1 .taken)) (did-none (args .g) (args .b) (args .image .now))
 
 close-page-requires : tie.Need-close-page-requires
-close-page-requires c κs = c .before .before .before .before .before .pre
+close-page-requires c κs =
+    let pre = c .before .before .before .before .before .pre in
+    pre
 
 same-length : tie.Need-same-length
 same-length c = search needs
 
 returns-2 : tie.Need-returns-2
-returns-2 c = rw (ne-eqb _ _ (c .before .before .before .before .if1 .left)) (c .before .before .close-page .ensures)
+returns-2 c =
+    let if1 = c .before .before .before .before .if1 in
+    rw (ne-eqb _ _ (if1 .left)) (c .before .before .close-page .ensures)
 
 pub close-other-spec : {M : Type 1} → statement M
 close-other-spec =

@@ -6,7 +6,9 @@ use Rattle.push.proofs.is_too_big.Statement.{statement}
 use Rattle.push.proofs.is_too_big.Tie as tie
 
 returns : tie.Need-returns
-returns c = sym (big-long (c .before .args .g) (c .before .args .n) (c .if1 .taken))
+returns c =
+    let args = c .before .args in
+    sym (big-long (args .g) (args .n) (c .if1 .taken))
 
 calculate-page-size-requires : tie.Need-calculate-page-size-requires
 calculate-page-size-requires c κs = c .before .pre
@@ -15,10 +17,14 @@ header-size-requires : tie.Need-header-size-requires
 header-size-requires c κs = c .before .before .pre
 
 add-result : tie.Need-add-result
-add-result c = omega (arith, c .header-size .ensures, c .before .before .before .pre .header-high)
+add-result c =
+    let pre-header-high = c .before .before .before .pre .header-high in
+    omega (arith, c .header-size .ensures, pre-header-high)
 
 returns-2 : tie.Need-returns-2
-returns-2 c = rw (big-page (c .before .before .before .args .g) (c .before .before .before .args .n) (c .before .before .if1 .left), ← c .before .calculate-page-size .ensures, ← c .header-size .ensures)
+returns-2 c =
+    let args = c .before .before .before .args in
+    rw (big-page (args .g) (args .n) (c .before .before .if1 .left), ← c .before .calculate-page-size .ensures, ← c .header-size .ensures)
 
 pub is-too-big-spec : {M : Type 1} → statement M
 is-too-big-spec =

@@ -15,7 +15,13 @@ same-length c = search needs
 
 returns : tie.Need-returns
 unfolding spotFor
-returns c = record { ran = repair-cut (spotStep (c .before .before .before .before .before .before .before .args .g) (c .before .before .before .before .before .before .before .args .n) (c .before .before .before .before .before .before .before .args .over)) tt (c .before .before .before .before .spot-step .ensures .ran) _ (c .if1 .taken); holds = c .before .before .before .before .spot-step .ensures .holds }
+returns c =
+    let args = c .before .before .before .before .before .before .before .args in
+    let spot-step = c .before .before .before .before .spot-step in
+    record {
+      ran = repair-cut (spotStep (args .g) (args .n) (args .over)) tt (spot-step .ensures .ran) _ (c .if1 .taken);
+      holds = spot-step .ensures .holds;
+    }
 
 enum-told : tie.Need-enum-told
 enum-told c = search needs
@@ -27,7 +33,10 @@ enum-told-3 : tie.Need-enum-told-3
 enum-told-3 c = search needs
 
 try-general-repair-requires : tie.Need-try-general-repair-requires
-try-general-repair-requires c κs = rw (c .before .before .before .before .before .before .before .spot-step .kept .0) (c .before .before .before .before .before .before .before .before .before .before .pre .0)
+try-general-repair-requires c κs =
+    let pre = c .before .before .before .before .before .before .before .before .before .before .pre in
+    let spot-step = c .before .before .before .before .before .before .before .spot-step in
+    rw (spot-step .kept .0) (pre .0)
 
 same-length-2 : tie.Need-same-length-2
 same-length-2 c = search needs
@@ -35,12 +44,24 @@ same-length-2 c = search needs
 returns-2 : tie.Need-returns-2
 unfolding spotFor
 returns-2 c =
+    let args = c .before .before .before .before .before .before .before .before .before .before .before .before .before .before .args in
     let s = c .before .before .before .before .before .before .before .before .before .before .before .spot-step .ensures .ran in
-    let e = ap triedAs (c .before .before .before .before .before .enum-told3 .given .1) in
-    record { ran = repair-stops (spotStep (c .before .before .before .before .before .before .before .before .before .before .before .before .before .before .args .g) (c .before .before .before .before .before .before .before .before .before .before .before .before .before .before .args .n) (c .before .before .before .before .before .before .before .before .before .before .before .before .before .before .args .over)) tt s tt e (c .before .before .before .before .before .before .before .if1 .left) (c .before .before .before .try-general-repair .ensures) _ (c .if2 .taken); holds = λ z. tt }
+    let if1 = c .before .before .before .before .before .before .before .if1 in
+    let enum-told3 = c .before .before .before .before .before .enum-told3 in
+    let try-general-repair = c .before .before .before .try-general-repair in
+    let e = ap triedAs (enum-told3 .given .1) in
+    record {
+      ran =
+          repair-stops (spotStep (args .g) (args .n) (args .over)) tt s tt e (if1 .left) (try-general-repair .ensures) _ (c .if2 .taken);
+      holds = λ z. tt;
+    }
 
 spot-step-requires-2 : tie.Need-spot-step-requires-2
-spot-step-requires-2 c κs = (rw (c .before .before .before .before .try-general-repair .kept .0 ∙ c .before .before .before .before .before .before .before .before .before .before .before .before .spot-step .kept .0) (c .before .before .before .before .before .before .before .before .before .before .before .before .before .before .before .pre .0), c .before .before .before .before .before .before .before .before .before .before .before .before .before .before .before .pre .1)
+spot-step-requires-2 c κs =
+    let pre = c .before .before .before .before .before .before .before .before .before .before .before .before .before .before .before .pre in
+    let spot-step = c .before .before .before .before .before .before .before .before .before .before .before .before .spot-step in
+    let try-general-repair = c .before .before .before .before .try-general-repair in
+    (rw (try-general-repair .kept .0 ∙ spot-step .kept .0) (pre .0), pre .1)
 
 same-length-3 : tie.Need-same-length-3
 same-length-3 c = search needs
@@ -48,9 +69,14 @@ same-length-3 c = search needs
 returns-3 : tie.Need-returns-3
 unfolding spotFor
 returns-3 c =
+    let args = c .before .before .before .before .before .before .before .before .before .args in
     let s = c .before .before .before .before .before .before .spot-step .ensures in
     let e = c .enum-told .given .1 in
-    record { ran = (rw e (repair-gives (spotStep (c .before .before .before .before .before .before .before .before .before .args .g) (c .before .before .before .before .before .before .before .before .before .args .n) (c .before .before .before .before .before .before .before .before .before .args .over)) tt (s .ran) full (ap triedAs e) (c .before .before .if1 .left))); holds = s .holds }
+    record {
+      ran =
+          (rw e (repair-gives (spotStep (args .g) (args .n) (args .over)) tt (s .ran) full (ap triedAs e) (c .before .before .if1 .left)));
+      holds = s .holds;
+    }
 
 same-length-4 : tie.Need-same-length-4
 same-length-4 c = search needs
@@ -58,9 +84,14 @@ same-length-4 c = search needs
 returns-4 : tie.Need-returns-4
 unfolding spotFor
 returns-4 c =
+    let args = c .before .before .before .before .before .before .before .before .before .args in
     let s = c .before .before .before .before .before .before .spot-step .ensures in
     let e = c .enum-told2 .given .1 in
-    record { ran = (rw e (repair-gives (spotStep (c .before .before .before .before .before .before .before .before .before .args .g) (c .before .before .before .before .before .before .before .before .before .args .n) (c .before .before .before .before .before .before .before .before .before .args .over)) tt (s .ran) _ (ap triedAs e) (c .before .before .if1 .left))); holds = s .holds }
+    record {
+      ran =
+          (rw e (repair-gives (spotStep (args .g) (args .n) (args .over)) tt (s .ran) _ (ap triedAs e) (c .before .before .if1 .left)));
+      holds = s .holds;
+    }
 
 same-length-5 : tie.Need-same-length-5
 same-length-5 c = search needs
@@ -68,10 +99,21 @@ same-length-5 c = search needs
 returns-5 : tie.Need-returns-5
 unfolding spotFor
 returns-5 c =
-    let s = c .before .before .before .before .before .before .before .before .before .before .before .before .before .before .before .spot-step .ensures .ran in
-    let e = ap triedAs (c .before .before .before .before .before .before .before .before .before .enum-told3 .given .1) in
+    let args = c .before .before .before .before .before .before .before .before .before .before .before .before .before .before .before .before .before .before
+    .args in
+    let s = c .before .before .before .before .before .before .before .before .before .before .before .before .before .before .before .spot-step .ensures
+    .ran in
+    let if1 = c .before .before .before .before .before .before .before .before .before .before .before .if1 in
+    let enum-told3 = c .before .before .before .before .before .before .before .before .before .enum-told3 in
+    let try-general-repair = c .before .before .before .before .before .before .before .try-general-repair in
+    let if2 = c .before .before .before .before .if2 in
     let t = c .before .before .spot-step2 .ensures in
-    record { ran = repair-again (spotStep (c .before .before .before .before .before .before .before .before .before .before .before .before .before .before .before .before .before .before .args .g) (c .before .before .before .before .before .before .before .before .before .before .before .before .before .before .before .before .before .before .args .n) (c .before .before .before .before .before .before .before .before .before .before .before .before .before .before .before .before .before .before .args .over)) tt s tt e (c .before .before .before .before .before .before .before .before .before .before .before .if1 .left) (c .before .before .before .before .before .before .before .try-general-repair .ensures) (c .before .before .before .before .if2 .left) (t .ran); holds = t .holds }
+    let e = ap triedAs (enum-told3 .given .1) in
+    record {
+      ran =
+          repair-again (spotStep (args .g) (args .n) (args .over)) tt s tt e (if1 .left) (try-general-repair .ensures) (if2 .left) (t .ran);
+      holds = t .holds;
+    }
 
 pub spot-for-spec : {M : Type 1} → statement M
 spot-for-spec =

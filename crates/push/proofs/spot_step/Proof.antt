@@ -12,7 +12,9 @@ page-states-requires : tie.Need-page-states-requires
 page-states-requires c κs = c .before .before .pre .0
 
 find-youngest-page-requires : tie.Need-find-youngest-page-requires
-find-youngest-page-requires c κs = c .before .before .before .pre .0 .good
+find-youngest-page-requires c κs =
+    let pre = c .before .before .before .pre in
+    pre .0 .good
 
 enum-told : tie.Need-enum-told
 enum-told c = search needs
@@ -21,7 +23,10 @@ enum-known-youngest : tie.Need-enum-known-youngest
 enum-known-youngest c = search needs
 
 spot-on-requires : tie.Need-spot-on-requires
-spot-on-requires c κs = (c .before .before .before .before .before .before .before .before .pre .0, c .before .before .before .before .find-youngest-page .ensures .within _ (ap chosenAs (c .before .before .youngest .given .1)), c .before .before .before .before .before .before .before .before .pre .1)
+spot-on-requires c κs =
+    let pre = c .before .before .before .before .before .before .before .before .pre in
+    let find-youngest-page = c .before .before .before .before .find-youngest-page in
+    (pre .0, find-youngest-page .ensures .within _ (ap chosenAs (c .before .before .youngest .given .1)), pre .1)
 
 same-length : tie.Need-same-length
 same-length c = search needs
@@ -29,8 +34,10 @@ same-length c = search needs
 returns : tie.Need-returns
 unfolding spotStep spotOn
 returns c =
-    let y = seen (c .before .before .find-youngest-page .ensures) (ap chosenAs (c .enum-told .given .1)) (c .before .before .before .page-states .ensures) in
-    record { ran = (rw y (ran-none (c .before .before .before .before .before .before .args .g) (c .before .before .before .before .before .before .args .b) (c .before .before .before .before .before .before .args .image .now) _)); holds = λ z. tt }
+    let args = c .before .before .before .before .before .before .args in
+    let page-states = c .before .before .before .page-states in
+    let y = seen (c .before .before .find-youngest-page .ensures) (ap chosenAs (c .enum-told .given .1)) (page-states .ensures) in
+    record { ran = (rw y (ran-none (args .g) (args .b) (args .image .now) _)); holds = λ z. tt }
 
 same-length-2 : tie.Need-same-length-2
 same-length-2 c = search needs
@@ -38,7 +45,10 @@ same-length-2 c = search needs
 returns-2 : tie.Need-returns-2
 unfolding spotStep
 returns-2 c =
-    let y = seen (c .before .before .before .before .before .before .before .find-youngest-page .ensures) (ap chosenAs (c .before .before .before .before .before .youngest .given .1)) (c .before .before .before .before .before .before .before .before .page-states .ensures) in
+    let page-states = c .before .before .before .before .before .before .before .before .page-states in
+    let find-youngest-page = c .before .before .before .before .before .before .before .find-youngest-page in
+    let youngest = c .before .before .before .before .before .youngest in
+    let y = seen (find-youngest-page .ensures) (ap chosenAs (youngest .given .1)) (page-states .ensures) in
     rw y (c .before .before .spot-on .ensures)
 
 pub spot-step-spec : {M : Type 1} → statement M

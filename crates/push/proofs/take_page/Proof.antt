@@ -15,20 +15,30 @@ same-length c = search needs
 
 returns : tie.Need-returns
 unfolding takePage
-returns c = rw (sym (c .before .is-kept .ensures) ∙ c .if1 .taken) (ran-none (c .before .before .before .before .args .g) (c .before .before .before .before .args .b) (c .before .before .before .before .args .image .now) _)
+returns c =
+    let args = c .before .before .before .before .args in
+    rw (sym (c .before .is-kept .ensures) ∙ c .if1 .taken) (ran-none (args .g) (args .b) (args .image .now) _)
 
 page-data-start-address-requires : tie.Need-page-data-start-address-requires
-page-data-start-address-requires c κs = (c .before .before .before .before .pre .0 .good, c .before .before .before .before .pre .2)
+page-data-start-address-requires c κs =
+    let pre = c .before .before .before .before .pre in
+    (pre .0 .good, pre .2)
 
 reuse-page-requires : tie.Need-reuse-page-requires
-reuse-page-requires c κs = c .before .before .before .before .before .before .pre
+reuse-page-requires c κs =
+    let pre = c .before .before .before .before .before .before .pre in
+    pre
 
 same-length-2 : tie.Need-same-length-2
 same-length-2 c = search needs
 
 returns-2 : tie.Need-returns-2
 unfolding takePage
-returns-2 c = rw (sym (c .before .before .before .before .before .before .is-kept .ensures) ∙ c .before .before .before .before .before .if1 .left, c .before .before .before .before .page-data-start-address .ensures) (ran-plan _ (c .before .before .reuse-page .ensures))
+returns-2 c =
+    let is-kept = c .before .before .before .before .before .before .is-kept in
+    let if1 = c .before .before .before .before .before .if1 in
+    let page-data-start-address = c .before .before .before .before .page-data-start-address in
+    rw (sym (is-kept .ensures) ∙ if1 .left, page-data-start-address .ensures) (ran-plan _ (c .before .before .reuse-page .ensures))
 
 pub take-page-spec : {M : Type 1} → statement M
 take-page-spec =

@@ -19,13 +19,21 @@ round-down-requires : tie.Need-round-down-requires
 round-down-requires c κs = search needs
 
 returns : tie.Need-returns
-returns c = available-none (c .before .before .before .before .args .g) (c .before .before .before .before .args .total) (omega (arith, c .before .before .before .header-size .ensures, c .before .round-down .ensures .0))
+returns c =
+    let args-g = c .before .before .before .before .args .g in
+    let args-total = c .before .before .before .before .args .total in
+    let header-size-ensures = c .before .before .before .header-size .ensures in
+    available-none args-g args-total (omega (arith, header-size-ensures, c .before .round-down .ensures .0))
 
 returns-2 : tie.Need-returns-2
 returns-2 c =
-    let e : roundDown (c .before .before .before .before .args .g .word) (c .before .before .before .before .args .total) ≡ c .before .round-down .result = sym (c .before .round-down .ensures .0) in
-    let f : headerSize (c .before .before .before .before .args .g) ≡ c .before .before .before .header-size .result = sym (c .before .before .before .header-size .ensures) in
-    ap₂ (λ (x y : ℕ). room.Bytes (x - y)) (sym e) (sym f) ∙ available-some (c .before .before .before .before .args .g) (c .before .before .before .before .args .total) (omega arith)
+    let args-g = c .before .before .before .before .args .g in
+    let args-total = c .before .before .before .before .args .total in
+    let header-size-ensures = c .before .before .before .header-size .ensures in
+    let header-size-result = c .before .before .before .header-size .result in
+    let e : roundDown (args-g .word) args-total ≡ c .before .round-down .result = sym (c .before .round-down .ensures .0) in
+    let f : headerSize args-g ≡ header-size-result = sym header-size-ensures in
+    ap₂ (λ (x y : ℕ). room.Bytes (x - y)) (sym e) (sym f) ∙ available-some args-g args-total (omega arith)
 
 pub available-data-bytes-spec : {M : Type 1} → statement M
 available-data-bytes-spec =

@@ -35,7 +35,10 @@ le16-requires c κs = tt
 returns : tie.Need-returns
 returns c =
     let d = c .before .before .before .before .before .before .before .args .bytes .now in
-    decode-unequal (c .before .before .before .before .before .before .before .args .g) d (λ q. c .if1 .taken (length-is (c .before .before .before .before .crc16 .ensures) ∙ q ∙ ap numberOf (part-two d 6 (omega arith)) ∙ sym (c .before .le16 .ensures)))
+    let args-g = c .before .before .before .before .before .before .before .args .g in
+    let crc16-ensures = c .before .before .before .before .crc16 .ensures in
+    decode-unequal args-g d (λ q. c .if1 .taken
+    (length-is crc16-ensures ∙ q ∙ ap numberOf (part-two d 6 (omega arith)) ∙ sym (c .before .le16 .ensures)))
 
 shared-slice-read-le16-3 : tie.Need-shared-slice-read-le16-3
 shared-slice-read-le16-3 c = omega arith
@@ -56,7 +59,9 @@ round-up-requires : tie.Need-round-up-requires
 round-up-requires c κs = omega arith
 
 header-size-requires : tie.Need-header-size-requires
-header-size-requires c κs = c .before .before .before .before .before .before .before .before .before .before .before .before .pre .0
+header-size-requires c κs =
+    let pre = c .before .before .before .before .before .before .before .before .before .before .before .before .pre in
+    pre .0
 
 add-if2 : tie.Need-add-if2
 add-if2 c = omega (arith, c .header-size .ensures, c .before .round-up .ensures .high)
@@ -64,10 +69,15 @@ add-if2 c = omega (arith, c .header-size .ensures, c .before .round-up .ensures 
 returns-2 : tie.Need-returns-2
 returns-2 c =
     let d = c .before .before .before .before .before .before .before .before .before .before .before .before .before .before .args .bytes .now in
-    let q = sym (length-is (c .before .before .before .before .before .before .before .before .before .before .before .crc16 .ensures)) ∙ c .before .before .before .before .before .before .before .if1 .left ∙ c .before .before .before .before .before .before .before .before .le16 .ensures ∙ sym (ap numberOf (part-two d 6 (omega arith))) in
-    let n = c .before .before .before .before .le162 .ensures ∙ sym (ap numberOf (part-two d 4 (omega arith))) in
-    let u = c .before .before .round-up .ensures .answer ∙ ap (roundUp (c .before .before .before .before .before .before .before .before .before .before .before .before .before .before .args .g .word)) n in
-    decode-long (c .before .before .before .before .before .before .before .before .before .before .before .before .before .before .args .g) d q (omega (arith, c .before .header-size .ensures, c .if2 .taken))
+    let args-g = c .before .before .before .before .before .before .before .before .before .before .before .before .before .before .args .g in
+    let crc16-ensures = c .before .before .before .before .before .before .before .before .before .before .before .crc16 .ensures in
+    let le16-ensures = c .before .before .before .before .before .before .before .before .le16 .ensures in
+    let if1-left = c .before .before .before .before .before .before .before .if1 .left in
+    let le162-ensures = c .before .before .before .before .le162 .ensures in
+    let q = sym (length-is crc16-ensures) ∙ if1-left ∙ le16-ensures ∙ sym (ap numberOf (part-two d 6 (omega arith))) in
+    let n = le162-ensures ∙ sym (ap numberOf (part-two d 4 (omega arith))) in
+    let u = c .before .before .round-up .ensures .answer ∙ ap (roundUp (args-g .word)) n in
+    decode-long args-g d q (omega (arith, c .before .header-size .ensures, c .if2 .taken))
 
 shared-slice-read-le32 : tie.Need-shared-slice-read-le32
 shared-slice-read-le32 c = omega arith
@@ -86,12 +96,23 @@ le32-requires c κs = tt
 
 returns-3 : tie.Need-returns-3
 returns-3 c =
-    let d = c .before .before .before .before .before .before .before .before .before .before .before .before .before .before .before .before .before .before .before .args .bytes .now in
-    let q = sym (length-is (c .before .before .before .before .before .before .before .before .before .before .before .before .before .before .before .before .crc16 .ensures)) ∙ c .before .before .before .before .before .before .before .before .before .before .before .before .if1 .left ∙ c .before .before .before .before .before .before .before .before .before .before .before .before .before .le16 .ensures ∙ sym (ap numberOf (part-two d 6 (omega arith))) in
-    let n = c .before .before .before .before .before .before .before .before .before .le162 .ensures ∙ sym (ap numberOf (part-two d 4 (omega arith))) in
-    let u = c .before .before .before .before .before .before .before .round-up .ensures .answer ∙ ap (roundUp (c .before .before .before .before .before .before .before .before .before .before .before .before .before .before .before .before .before .before .before .args .g .word)) n in
+    let d = c .before .before .before .before .before .before .before .before .before .before .before .before .before .before .before .before .before .before
+    .before .args .bytes .now in
+    let args-g = c .before .before .before .before .before .before .before .before .before .before .before .before .before .before .before .before .before
+    .before .before .args .g in
+    let crc16-ensures = c .before .before .before .before .before .before .before .before .before .before .before .before .before .before .before .before .crc16
+    .ensures in
+    let le16-ensures = c .before .before .before .before .before .before .before .before .before .before .before .before .before .le16 .ensures in
+    let if1-left = c .before .before .before .before .before .before .before .before .before .before .before .before .if1 .left in
+    let le162-ensures = c .before .before .before .before .before .before .before .before .before .le162 .ensures in
+    let round-up-ensures-answer = c .before .before .before .before .before .before .before .round-up .ensures .answer in
+    let header-size-ensures = c .before .before .before .before .before .before .header-size .ensures in
+    let if2-left = c .before .before .before .before .before .if2 .left in
+    let q = sym (length-is crc16-ensures) ∙ if1-left ∙ le16-ensures ∙ sym (ap numberOf (part-two d 6 (omega arith))) in
+    let n = le162-ensures ∙ sym (ap numberOf (part-two d 4 (omega arith))) in
+    let u = round-up-ensures-answer ∙ ap (roundUp (args-g .word)) n in
     let k = c .le32 .ensures ∙ sym (ap numberOf (take-four d (omega arith))) in
-    ap₂ (λ (x y : ℕ). item x y (part (headerSize (c .before .before .before .before .before .before .before .before .before .before .before .before .before .before .before .before .before .before .before .args .g)) y d)) k n ∙ decode-item (c .before .before .before .before .before .before .before .before .before .before .before .before .before .before .before .before .before .before .before .args .g) d q (omega (arith, c .before .before .before .before .before .before .header-size .ensures, c .before .before .before .before .before .if2 .left))
+    ap₂ (λ (x y : ℕ). item x y (part (headerSize args-g) y d)) k n ∙ decode-item args-g d q (omega (arith, header-size-ensures, if2-left))
 
 pub decoded-spec : {M : Type 1} → statement M
 decoded-spec =

@@ -72,7 +72,19 @@ array-write-bytes-8 : tie.Need-array-write-bytes-8
 array-write-bytes-8 c = search needs
 
 returns : tie.Need-returns
-returns c = encode-is (c .before .before .before .before .before .before .before .before .before .before .before .before .args .g) (c .before .before .before .before .before .before .before .before .before .before .before .before .pre) (c .before .before .before .before .before .before .before .before .before .before .before .before .args .self .crc) (c .before .before .before .before .before .before .before .before .before .before .before .before .args .self .length) _ _ _ _ _ _ _ _ (c .before .before .crc16 .result) (c .before .before .before .before .before .before .before .before .before .before .low-byte .ensures) (c .before .before .before .before .before .before .before .before .before .low-byte2 .ensures) (c .before .before .before .before .before .before .before .before .low-byte3 .ensures) (c .before .before .before .before .before .before .before .low-byte4 .ensures) (c .before .before .before .before .before .before .low-byte5 .ensures) (c .before .before .before .before .before .low-byte6 .ensures) (length-is (c .before .before .crc16 .ensures)) (c .before .low-byte7 .ensures) (c .low-byte8 .ensures)
+returns c =
+    let args = c .before .before .before .before .before .before .before .before .before .before .before .before .args in
+    let pre = c .before .before .before .before .before .before .before .before .before .before .before .before .pre in
+    let low-byte = c .before .before .before .before .before .before .before .before .before .before .low-byte in
+    let low-byte2 = c .before .before .before .before .before .before .before .before .before .low-byte2 in
+    let low-byte3 = c .before .before .before .before .before .before .before .before .low-byte3 in
+    let low-byte4 = c .before .before .before .before .before .before .before .low-byte4 in
+    let low-byte5 = c .before .before .before .before .before .before .low-byte5 in
+    let low-byte6 = c .before .before .before .before .before .low-byte6 in
+    let crc16 = c .before .before .crc16 in
+    encode-is (args .g) pre (args .self .crc) (args .self .length) _ _ _ _ _ _ _ _ (crc16 .result) (low-byte .ensures) (low-byte2 .ensures)
+    (low-byte3 .ensures) (low-byte4 .ensures) (low-byte5 .ensures) (low-byte6 .ensures) (length-is (crc16 .ensures))
+    (c .before .low-byte7 .ensures) (c .low-byte8 .ensures)
 
 pub encoded-spec : {M : Type 1} → statement M
 encoded-spec =

@@ -15,7 +15,9 @@ round-up-requires : tie.Need-round-up-requires
 round-up-requires c κs = search needs
 
 returns : tie.Need-returns
-returns c = ap (λ (n : ℕ). record { header = c .before .before .before .args .self; address = c .before .before .before .args .address; size = n }) (c .round-up .ensures .answer)
+returns c =
+    let args = c .before .before .before .args in
+    ap (λ (n : ℕ). record { header = args .self; address = args .address; size = n }) (c .round-up .ensures .answer)
 
 pub item-spec : {M : Type 1} → statement M
 item-spec =

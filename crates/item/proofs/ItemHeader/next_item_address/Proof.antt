@@ -22,10 +22,14 @@ cast-further : tie.Need-cast-further
 cast-further c = omega (arith, c .round-up .ensures .answer)
 
 further-requires : tie.Need-further-requires
-further-requires c κs = omega (arith, c .round-up .ensures .answer, c .before .before .before .data-address .ensures)
+further-requires c κs =
+    let data-address-ensures = c .before .before .before .data-address .ensures in
+    omega (arith, c .round-up .ensures .answer, data-address-ensures)
 
 returns : tie.Need-returns
-returns c = c .further .ensures ∙ ap₂ (λ (x y : ℕ). x + y) (c .before .before .before .before .data-address .ensures) (c .before .round-up .ensures .answer)
+returns c =
+    let data-address = c .before .before .before .before .data-address in
+    c .further .ensures ∙ ap₂ (λ (x y : ℕ). x + y) (data-address .ensures) (c .before .round-up .ensures .answer)
 
 pub next-item-address-spec : {M : Type 1} → statement M
 next-item-address-spec =

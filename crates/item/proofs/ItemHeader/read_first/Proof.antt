@@ -12,26 +12,44 @@ header-size-requires : tie.Need-header-size-requires
 header-size-requires c κs = c .before .pre
 
 returns : tie.Need-returns
-returns c = look-short (c .before .before .before .args .g) (c .before .before .before .args .bytes .now) (omega (arith, c .before .header-size .ensures))
+returns c =
+    let args-bytes-now = c .before .before .before .args .bytes .now in
+    let args-g = c .before .before .before .args .g in
+    look-short args-g args-bytes-now (omega (arith, c .before .header-size .ensures))
 
 slice-aggregate-all-ff : tie.Need-slice-aggregate-all-ff
-slice-aggregate-all-ff c = sym (length-take-le _ (c .before .before .before .before .args .bytes .now) (omega (arith, c .before .before .before .before .pre, c .before .before .header-size .ensures)))
+slice-aggregate-all-ff c =
+    let args-bytes-now = c .before .before .before .before .args .bytes .now in
+    let pre = c .before .before .before .before .pre in
+    sym (length-take-le _ args-bytes-now (omega (arith, pre, c .before .before .header-size .ensures)))
 
 all-ff-requires : tie.Need-all-ff-requires
 all-ff-requires c κs = search needs
 
 returns-2 : tie.Need-returns-2
 returns-2 c =
-    let e : headerSize (c .before .before .before .before .before .before .args .g) ≡ c .before .before .before .before .header-size .result = sym (c .before .before .before .before .header-size .ensures) in
-    look-blank (c .before .before .before .before .before .before .args .g) (c .before .before .before .before .before .before .args .bytes .now) (omega arith) (rw e (sym (c .before .all-ff .ensures) ∙ c .if2 .taken))
+    let args-bytes-now = c .before .before .before .before .before .before .args .bytes .now in
+    let args-g = c .before .before .before .before .before .before .args .g in
+    let header-size-ensures = c .before .before .before .before .header-size .ensures in
+    let header-size-result = c .before .before .before .before .header-size .result in
+    let e : headerSize args-g ≡ header-size-result = sym header-size-ensures in
+    look-blank args-g args-bytes-now (omega arith) (rw e (sym (c .before .all-ff .ensures) ∙ c .if2 .taken))
 
 decoded-requires : tie.Need-decoded-requires
-decoded-requires c κs = (c .before .before .before .before .before .before .pre, omega (arith, c .before .before .before .before .header-size .ensures))
+decoded-requires c κs =
+    let pre = c .before .before .before .before .before .before .pre in
+    let header-size-ensures = c .before .before .before .before .header-size .ensures in
+    (pre, omega (arith, header-size-ensures))
 
 returns-3 : tie.Need-returns-3
 returns-3 c =
-    let e : headerSize (c .before .before .before .before .before .before .before .args .g) ≡ c .before .before .before .before .before .header-size .result = sym (c .before .before .before .before .before .header-size .ensures) in
-    c .decoded .ensures ∙ look-decode (c .before .before .before .before .before .before .before .args .g) (c .before .before .before .before .before .before .before .args .bytes .now) (omega arith) (rw e (sym (c .before .before .all-ff .ensures) ∙ c .before .if2 .left))
+    let args-bytes-now = c .before .before .before .before .before .before .before .args .bytes .now in
+    let args-g = c .before .before .before .before .before .before .before .args .g in
+    let header-size-ensures = c .before .before .before .before .before .header-size .ensures in
+    let header-size-result = c .before .before .before .before .before .header-size .result in
+    let e : headerSize args-g ≡ header-size-result = sym header-size-ensures in
+    c .decoded .ensures ∙ look-decode args-g args-bytes-now (omega arith)
+    (rw e (sym (c .before .before .all-ff .ensures) ∙ c .before .if2 .left))
 
 pub read-first-spec : {M : Type 1} → statement M
 read-first-spec =

@@ -19,7 +19,9 @@ part-read-first-end : tie.Need-part-read-first-end
 part-read-first-end c = omega arith
 
 read-first-requires : tie.Need-read-first-requires
-read-first-requires c κs = c .before .before .before .before .pre .good
+read-first-requires c κs =
+    let pre = c .before .before .before .before .pre in
+    pre .good
 
 returns : tie.Need-returns
 returns c = c .read-first .ensures
