@@ -8,7 +8,7 @@ import textwrap
 SHORTEST = 24  # a first piece shorter than this is no help to the reader
 # what a break costs before an operator: the looser it binds, the less; an argument costs more, and a deeper parenthesis most
 OPERATORS = {'→': 0, '×': 5, '⊎': 5, '∙': 4, '≡': 8, '≤': 9, '<': 9, '∷': 10, '++': 10, '+': 11}
-ARGUMENT = 12
+ARGUMENT = 14
 DEEPER = 24
 KEPT_WITH_NEXT = ('let', 'λ', 'rw', '←', 'record', 'at', ':', '-', '*', '=')
 

@@ -33,8 +33,8 @@ module _ (g : Geometry) (further : Stand → List ℕ → Plan (Try Stand Outcom
       by (met h) im₁ = refl
 
   leave-on : (old : ℕ) (clears : Bool) (p : ℕ)
-      → leavePage g old clears p (further (fromAddress (dataStart g (next g p)))) im ≡ bind g im (leaveTurn g old clears p im)
-      (onGoing further)
+      → leavePage g old clears p (further (fromAddress (dataStart g (next g p)))) im
+      ≡ bind g im (leaveTurn g old clears p im) (onGoing further)
   unfolding leavePage leaveTurn bind
   leave-on old clears p = by (same (state g im (next g p)) Corrupted) (same (state g im (next g p)) Open || eqb (next g p) old)
       (cond clears (erasePage g p) []) (fromAddress (dataStart g (next g p)))

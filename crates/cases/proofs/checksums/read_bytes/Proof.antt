@@ -9,7 +9,9 @@ slice-relend-prefix-bytes : tie.Need-slice-relend-prefix-bytes
 slice-relend-prefix-bytes c = search needs
 
 slice-aggregate-bytes : tie.Need-slice-aggregate-bytes
-slice-aggregate-bytes c = sym (length-take-le (c .before .before .args .size) (c .before .before .args .space .now) (c .before .before .pre))
+slice-aggregate-bytes c =
+    let args = c .before .before .args in
+    sym (length-take-le (args .size) (args .space .now) (c .before .before .pre))
 
 read-full-requires : tie.Need-read-full-requires
 read-full-requires c κs = search needs
