@@ -9,6 +9,8 @@ use Rattle.paper.specs.Scan.{Head}
 use Rattle.paper.specs.Refusals.{shownAs}
 use Rattle.paper.specs.Calls.{passed, long, fromAddress, afterPage, Outcome, nothing, short, this, spoilt, shownBy}
 use Rattle.paper.specs.Calls as calls
+use Rattle.chip.specs.declared.Spent.{Spent}
+use Rattle.chip.specs.Run.{unlessCut}
 use Rattle.item.specs.declared.Item.{Item}
 use Rattle.item.specs.Places.{Room}
 use Rattle.item.specs.Reading.{headAt}
@@ -94,6 +96,6 @@ TurnIn g n (turn.Ends f) = FoundIn g n f
 
 -- ---- what is shown
 
--- r is what is shown of what was found
-abbrev pub Shows : Found → Shown → Type 0
-Shows f r = (g : Geometry) (im : List ℕ) → shownAs r ≡ shownBy (foundAs g im f)
+-- r is what a call shows that spent s and found f
+abbrev pub Shows : Spent → Found → Shown → Type 0
+Shows s f r = (g : Geometry) (im : List ℕ) → shownAs r ≡ unlessCut s (shownBy (foundAs g im f))

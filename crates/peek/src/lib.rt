@@ -8,7 +8,7 @@ ghost use Rattle.paper.specs.Calls.{readHeads, nextStep, startStep, withRepair,
 ghost use Rattle.paper.specs.Calls as calls;
 ghost use Rattle.paper.specs.Refusals.{shownAs};
 ghost use Rattle.chip.specs.Within.{Within};
-ghost use Rattle.chip.specs.Run.{Did, Showed};
+ghost use Rattle.chip.specs.Run.{Did, WholeShown, under};
 ghost use Rattle.item.specs.Places.{Inside};
 ghost use Rattle.item.specs.Scanning.{walkFrom};
 ghost use Rattle.page.specs.Searches.{chosenAs};
@@ -73,47 +73,41 @@ struct Searched {
     found: Found,
 }
 
-pub struct Showing {
-    pub spent: Spent,
-    pub answer: Shown,
-}
-
 // ---- the calls
 
 // Peek stores too: repairs, and the erases of pages that it left because nothing in them is present.
-pub fn peek(image: &mut [u8], buffer: &mut [u8], b: Budget, g: Geometry) -> Showing
+pub fn peek(image: &mut [u8], buffer: &mut [u8], b: Budget, g: Geometry) -> Shown
     requires { ⌜ Within g (length (now image)) ⌝ }
-    ensures { λ r. ⌜ Showed g b (calls.peek g (now (image .entry)) (length (now (buffer .entry)))) (now (image .entry)) (now (image .exit)) (now (buffer .entry)) (now (buffer .exit)) (r .spent) (shownAs (r .answer)) ⌝ }
+    ensures { λ r. ⌜ WholeShown g (under b (calls.peek g (now (image .entry)) (length (now (buffer .entry))))) (now (image .entry)) (now (image .exit)) (now (buffer .entry)) (now (buffer .exit)) (shownAs r) ⌝ }
 {
     let searched = search(image, buffer, b, g);
     let spent = searched.spent;
     let found = searched.found;
-    let answer = shown_by(found);
-    Showing { spent, answer }
+    shown_by(spent, found)
 }
 
 // A search that was cut stores nothing more: the first k stores of a call are those of its search and then those of the header.
-pub fn pop(image: &mut [u8], buffer: &mut [u8], b: Budget, g: Geometry) -> Showing
+pub fn pop(image: &mut [u8], buffer: &mut [u8], b: Budget, g: Geometry) -> Shown
     requires { ⌜ Within g (length (now image)) ⌝ }
-    ensures { λ r. ⌜ Showed g b (calls.pop g (now (image .entry)) (length (now (buffer .entry)))) (now (image .entry)) (now (image .exit)) (now (buffer .entry)) (now (buffer .exit)) (r .spent) (shownAs (r .answer)) ⌝ }
+    ensures { λ r. ⌜ WholeShown g (under b (calls.pop g (now (image .entry)) (length (now (buffer .entry))))) (now (image .entry)) (now (image .exit)) (now (buffer .entry)) (now (buffer .exit)) (shownAs r) ⌝ }
 {
     let searched = search(image, buffer, b, g);
     let spent = searched.spent;
-    let found = searched.found;
-    let answer = shown_by(found);
     if spent.cut {
-        return Showing { spent, answer };
+        return Shown::Refused(Refusal::Cut);
     }
+    let found = searched.found;
     let erased = pop_found(image, spent.budget, g, found);
-    Showing {
-        spent: erased,
-        answer,
-    }
+    shown_by(erased, found)
 }
 
-fn shown_by(found: Found) -> Shown
-    ensures { λ r. ⌜ Shows found r ⌝ }
+// What a call answers that spent that and found that.
+fn shown_by(spent: Spent, found: Found) -> Shown
+    ensures { λ r. ⌜ Shows spent found r ⌝ }
 {
+    if spent.cut {
+        return Shown::Refused(Refusal::Cut);
+    }
     match found {
         Found::Nothing => Shown::Empty,
         Found::TooSmall(size) => Shown::Refused(Refusal::BufferTooSmall(size)),

@@ -1,15 +1,18 @@
 -- `count::erase_all` meets its contract. The invariant: erasing the pages from here on completes the erase of all. Assumes nothing.
 use native.Mathlib.Omega.{arith}
-use mathlib.Core.Path.{_≡_, refl, sym, _∙_}
-use mathlib.Core.Bool.{false≢true}
+use mathlib.Core.Path.{_≡_, refl, _∙_}
+use mathlib.Core.Bool.{false}
 use mathlib.Core.List.{List}
 use Prim.Native.Nat.{ℕ, _-_, _≤_}
 use lib.ListN.{length}
 use Rattle.paper.specs.Pages.{around}
+use Rattle.paper.specs.Refusals.{done}
 use Rattle.paper.specs.Calls.{erases, eraseAll}
 use Rattle.chip.specs.declared.Spent.{Spent}
 use Rattle.chip.specs.Run.{Did}
 use Rattle.chip.proofs.Running.{did-none}
+use Rattle.chip.proofs.Binding.{ran-plan}
+use Rattle.chip.proofs.Limiting.{under-cut, under-done}
 use Rattle.page.proofs.Rings.{order-first, order-last}
 use Rattle.count.proofs.Erases.{erases-none, erases-cut, erases-on}
 use Rattle.count.proofs.erase_all.Statement.{statement}
@@ -33,7 +36,10 @@ same-length : tie.Need-same-length Inv-loop μ-loop
 same-length c = c .before .before .before .erase-page .kept .0 ∙ c .before .before .before .before .before .before .before .loop .inv .0
 
 returns : tie.Need-returns Inv-loop μ-loop
-returns c = let l = c .before .before .before .before .before .before .before .loop in record { did = l .inv .2 _ _ (erases-cut (l .p) (omega arith) (c .before .before .before .erase-page .ensures) (c .if2 .taken)); says = λ e. absurd (false≢true (sym e ∙ c .if2 .taken)) }
+unfolding eraseAll
+returns c =
+    let l = c .before .before .before .before .before .before .before .loop in
+    under-cut (c .before .before .before .before .before .before .before .before .before .args .b) _ (ran-plan done (l .inv .2 _ _ (erases-cut (l .p) (omega arith) (c .before .before .before .erase-page .ensures) (c .if2 .taken)))) (c .if2 .taken)
 
 add-p : tie.Need-add-p Inv-loop μ-loop
 add-p c = omega arith
@@ -54,7 +60,7 @@ unfolding eraseAll
 returns-2 c =
     let l = c .before .before .loop in
     let g = c .before .before .before .before .args .g in
-    record { did = l .inv .2 _ _ (rw (order-last g (l .p) (omega arith), erases-none g) (did-none g (l .budget) (l .image))); says = λ e. refl }
+    under-done {r = record { cut = false; budget = l .budget }} (c .before .before .before .before .args .b) _ (ran-plan done (l .inv .2 _ _ (rw (order-last g (l .p) (omega arith), erases-none g) (did-none g (l .budget) (l .image))))) refl
 
 pub erase-all-spec : {M : Type 1} → statement M
 erase-all-spec =
