@@ -6,7 +6,7 @@ use Rattle.chip.proofs.Quiet.{acted-quiet}
 use Rattle.chip.proofs.Binding.{showed-plan, showed-bind-cut, showed-bind-then}
 use Rattle.chip.proofs.Limiting.{showed-under-cut, showed-under}
 use Rattle.paper.specs.Refusals.{empty}
-use Rattle.peek.specs.Meanings.{foundAs}
+use Rattle.search.specs.Meanings.{foundAs}
 use Rattle.peek.proofs.Popping.{popped-quiet}
 use Rattle.peek.proofs.pop.Statement.{statement}
 use Rattle.peek.proofs.pop.Tie as tie

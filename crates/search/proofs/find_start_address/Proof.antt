@@ -1,6 +1,6 @@
--- `peek::find_start_address` meets its contract: the table of states tells the oldest page. Assumes nothing.
-use Rattle.peek.proofs.find_start_address.Statement.{statement}
-use Rattle.peek.proofs.find_start_address.Tie as tie
+-- `search::find_start_address` meets its contract: the table of states tells the oldest page. Assumes nothing.
+use Rattle.search.proofs.find_start_address.Statement.{statement}
+use Rattle.search.proofs.find_start_address.Tie as tie
 
 page-states-requires : tie.Need-page-states-requires
 page-states-requires c κs = c .before .pre

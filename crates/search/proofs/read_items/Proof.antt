@@ -1,4 +1,4 @@
--- `peek::read_items` meets its contract: reading what is left from here on is reading the whole from the start. Assumes nothing.
+-- `search::read_items` meets its contract: reading what is left from here on is reading the whole from the start. Assumes nothing.
 use borrow.Author.Needs.{needs}
 use native.Mathlib.Omega.{arith}
 use mathlib.Core.Path.{_≡_, refl, _∙_}
@@ -9,10 +9,10 @@ use Rattle.paper.specs.Calls.{Met}
 use Rattle.item.specs.Places.{Inside}
 use Rattle.item.proofs.Live.{reaches-of, none-of}
 use Rattle.item.proofs.Walking.{inside-on}
-use Rattle.peek.specs.Searching.{Copied}
-use Rattle.peek.proofs.ReadingItems.{reading, none-read, small-read, present-read, torn-read, first-in, not-popped}
-use Rattle.peek.proofs.read_items.Statement.{statement}
-use Rattle.peek.proofs.read_items.Tie as tie
+use Rattle.search.specs.Searching.{Copied}
+use Rattle.search.proofs.ReadingItems.{reading, none-read, small-read, present-read, torn-read, first-in, not-popped}
+use Rattle.search.proofs.read_items.Statement.{statement}
+use Rattle.search.proofs.read_items.Tie as tie
 
 abbrev Inv-loop : tie.InvT-loop
 Inv-loop image buffer₀ g end start buffer from = Inside g (length image) (from .0) (end .0) × (end .0 < 4294967296) × (length buffer ≡ length buffer₀)

@@ -1,7 +1,7 @@
--- `peek::take_turn` meets its contract: one kind of turn for each stand. Assumes nothing.
+-- `search::take_turn` meets its contract: one kind of turn for each stand. Assumes nothing.
 use borrow.Author.Needs.{needs}
-use Rattle.peek.proofs.take_turn.Statement.{statement}
-use Rattle.peek.proofs.take_turn.Tie as tie
+use Rattle.search.proofs.take_turn.Statement.{statement}
+use Rattle.search.proofs.take_turn.Tie as tie
 
 enum-known-stand : tie.Need-enum-known-stand
 enum-known-stand c = search needs

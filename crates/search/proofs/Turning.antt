@@ -16,7 +16,7 @@ use Rattle.chip.specs.declared.Budget.{Budget}
 use Rattle.chip.specs.declared.Spent.{Spent}
 use Rattle.chip.specs.Run.{Showed}
 use Rattle.chip.proofs.Binding.{showed-none, showed-bind-cut, showed-bind-then, bind-turned, showed-kept}
-use Rattle.peek.specs.Turns.{Going, goes, ends, afterItems, readTurn, leaveTurn, turnFrom, onGoing}
+use Rattle.search.specs.Turns.{Going, goes, ends, afterItems, readTurn, leaveTurn, turnFrom, onGoing}
 
 -- ---- the paper's search, by turns
 

@@ -15,8 +15,8 @@ use Rattle.chip.specs.declared.Spent.{Spent}
 use Rattle.chip.specs.Run.{Did}
 use Rattle.chip.proofs.Quiet.{acted-quiet, erase-quiet}
 use Rattle.chip.proofs.Binding.{showed-none, showed-plan}
-use Rattle.peek.specs.Turns.{Going, goes, ends, leaveTurn}
-use Rattle.peek.specs.Searching.{Stored}
+use Rattle.search.specs.Turns.{Going, goes, ends, leaveTurn}
+use Rattle.search.specs.Searching.{Stored}
 
 -- page p is left; x is the page that follows, and s its state
 module _ (g : Geometry) (b : Budget) (im : List ℕ) (old : ℕ) (clears : Bool) (p : ℕ) {x : ℕ} (follows : x ≡ next g p) {s : PageState} (is : s ≡ state g im x) where

@@ -3,28 +3,24 @@ use mathlib.Core.Path.{_≡_}
 use mathlib.Core.List.{List}
 use Prim.Native.Nat.{ℕ, _≤_, _<_}
 use Rattle.paper.specs.declared.Geometry.{Geometry}
-use Rattle.paper.specs.declared.Shown.{Shown}
 use Rattle.paper.specs.Chip.{pageStart, dataEnd, pageOf, Try, fails, gives, settled}
 use Rattle.paper.specs.Scan.{Head}
-use Rattle.paper.specs.Refusals.{shownAs}
-use Rattle.paper.specs.Calls.{passed, long, fromAddress, afterPage, Outcome, nothing, short, this, spoilt, shownBy}
+use Rattle.paper.specs.Calls.{passed, long, fromAddress, afterPage, Outcome, nothing, short, this, spoilt}
 use Rattle.paper.specs.Calls as calls
-use Rattle.chip.specs.declared.Spent.{Spent}
-use Rattle.chip.specs.Run.{unlessCut}
 use Rattle.item.specs.declared.Item.{Item}
 use Rattle.item.specs.Places.{Room}
 use Rattle.item.specs.Reading.{headAt}
 use Rattle.page.specs.declared.Chosen.{Chosen}
 use Rattle.page.specs.Searches.{chosenAs}
-use Rattle.peek.specs.declared.NextAddress.{NextAddress}
-use Rattle.peek.specs.declared.NextAddress.the-variants as stand
-use Rattle.peek.specs.declared.Met.{Met}
-use Rattle.peek.specs.declared.Met.the-variants as met
-use Rattle.peek.specs.declared.Found.{Found}
-use Rattle.peek.specs.declared.Found.the-variants as found
-use Rattle.peek.specs.declared.Turn.{Turn}
-use Rattle.peek.specs.declared.Turn.the-variants as turn
-use Rattle.peek.specs.Turns.{Going, goes, ends}
+use Rattle.search.specs.declared.NextAddress.{NextAddress}
+use Rattle.search.specs.declared.NextAddress.the-variants as stand
+use Rattle.search.specs.declared.Met.{Met}
+use Rattle.search.specs.declared.Met.the-variants as met
+use Rattle.search.specs.declared.Found.{Found}
+use Rattle.search.specs.declared.Found.the-variants as found
+use Rattle.search.specs.declared.Turn.{Turn}
+use Rattle.search.specs.declared.Turn.the-variants as turn
+use Rattle.search.specs.Turns.{Going, goes, ends}
 
 -- ---- an item
 
@@ -93,9 +89,3 @@ FoundIn g n (found.Failed s) = StandIn g s
 abbrev pub TurnIn : Geometry → ℕ → Turn → Type 0
 TurnIn g n (turn.Goes s) = StandIn g s
 TurnIn g n (turn.Ends f) = FoundIn g n f
-
--- ---- what is shown
-
--- r is what a call shows that spent s and found f
-abbrev pub Shows : Spent → Found → Shown → Type 0
-Shows s f r = (g : Geometry) (im : List ℕ) → shownAs r ≡ unlessCut s (shownBy (foundAs g im f))

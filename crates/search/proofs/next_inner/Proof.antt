@@ -1,4 +1,4 @@
--- `peek::next_inner` meets its contract: what the search does from here on, with the turns that are left, is what it does from the start with all of them. Assumes nothing.
+-- `search::next_inner` meets its contract: what the search does from here on, with the turns that are left, is what it does from the start with all of them. Assumes nothing.
 use borrow.Author.Needs.{needs}
 use native.Mathlib.Omega.{arith}
 use mathlib.Core.Path.{_≡_, refl, ap, _∙_}
@@ -9,10 +9,10 @@ use Rattle.paper.specs.Chip.{Try}
 use Rattle.paper.specs.Calls.{Stand, Outcome, nextStep, nextItem}
 use Rattle.chip.specs.declared.Spent.{Spent}
 use Rattle.chip.specs.Run.{Showed}
-use Rattle.peek.specs.Meanings.{standAs, turnAs, StandIn}
-use Rattle.peek.proofs.Turning.{turns-over, turn-cut, turn-ends, turn-goes}
-use Rattle.peek.proofs.next_inner.Statement.{statement}
-use Rattle.peek.proofs.next_inner.Tie as tie
+use Rattle.search.specs.Meanings.{standAs, turnAs, StandIn}
+use Rattle.search.proofs.Turning.{turns-over, turn-cut, turn-ends, turn-goes}
+use Rattle.search.proofs.next_inner.Statement.{statement}
+use Rattle.search.proofs.next_inner.Tie as tie
 
 abbrev Inv-loop : tie.InvT-loop
 Inv-loop image₀ buffer₀ g oldest clears budget₀ stand₀ turns₀ image buffer budget stand turns = (length image ≡ length image₀) × (length buffer ≡ length buffer₀) × StandIn g stand

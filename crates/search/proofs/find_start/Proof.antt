@@ -1,10 +1,10 @@
--- `peek::find_start` meets its contract: one run, or two with a repair between them. Assumes nothing.
+-- `search::find_start` meets its contract: one run, or two with a repair between them. Assumes nothing.
 use borrow.Author.Needs.{needs}
 use mathlib.Core.Path.{ap}
 use Rattle.page.specs.Searches.{chosenAs}
-use Rattle.peek.proofs.Beginning.{start-gives, start-stops, start-again}
-use Rattle.peek.proofs.find_start.Statement.{statement}
-use Rattle.peek.proofs.find_start.Tie as tie
+use Rattle.search.proofs.Beginning.{start-gives, start-stops, start-again}
+use Rattle.search.proofs.find_start.Statement.{statement}
+use Rattle.search.proofs.find_start.Tie as tie
 
 find-start-address-requires : tie.Need-find-start-address-requires
 find-start-address-requires c κs = c .before .before .pre

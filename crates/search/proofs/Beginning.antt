@@ -12,7 +12,7 @@ use Rattle.chip.specs.declared.Spent.{Spent}
 use Rattle.chip.specs.Run.{Did, Showed}
 use Rattle.chip.proofs.Repairing.{showed-repair-gives, showed-repair-stops, showed-repair-again}
 use Rattle.chip.proofs.Binding.{showed-kept}
-use Rattle.peek.specs.Searching.{Stored}
+use Rattle.search.specs.Searching.{Stored}
 
 -- the step stores nothing; r was spent before it
 start-showed : (g : Geometry) (r : Spent) (im d : List ℕ) {x : Try Unit ℕ} → r .cut ≡ false → x ≡ oldest g im → Showed g (r .budget) (startStep g tt im) im im d d r x

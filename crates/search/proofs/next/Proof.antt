@@ -1,12 +1,12 @@
--- `peek::next` meets its contract: one run, or two with a repair between them. Assumes nothing.
+-- `search::next` meets its contract: one run, or two with a repair between them. Assumes nothing.
 use borrow.Author.Needs.{needs}
 use mathlib.Core.Path.{ap}
 use Rattle.paper.specs.Calls.{nextStep}
 use Rattle.chip.proofs.Repairing.{showed-repair-cut, showed-repair-gives, showed-repair-stops, showed-repair-again}
-use Rattle.peek.specs.Meanings.{triedAs}
-use Rattle.peek.proofs.OtherCases.{not-failed}
-use Rattle.peek.proofs.next.Statement.{statement}
-use Rattle.peek.proofs.next.Tie as tie
+use Rattle.search.specs.Meanings.{triedAs}
+use Rattle.search.proofs.OtherCases.{not-failed}
+use Rattle.search.proofs.next.Statement.{statement}
+use Rattle.search.proofs.next.Tie as tie
 
 next-inner-requires : tie.Need-next-inner-requires
 next-inner-requires c κs = c .before .before .before .before .pre

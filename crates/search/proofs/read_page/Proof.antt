@@ -1,12 +1,12 @@
--- `peek::read_page` meets its contract: the items from the address on are those of what is left of its page's data. Assumes nothing.
+-- `search::read_page` meets its contract: the items from the address on are those of what is left of its page's data. Assumes nothing.
 use borrow.Author.Needs.{needs}
 use mathlib.Core.Path.{ap}
 use Rattle.paper.specs.Calls.{passed, long, met}
-use Rattle.peek.specs.Meanings.{metAs}
-use Rattle.peek.proofs.ReadingItems.{page-read}
-use Rattle.peek.proofs.Standing.{left-inside}
-use Rattle.peek.proofs.read_page.Statement.{statement}
-use Rattle.peek.proofs.read_page.Tie as tie
+use Rattle.search.specs.Meanings.{metAs}
+use Rattle.search.proofs.ReadingItems.{page-read}
+use Rattle.search.proofs.Standing.{left-inside}
+use Rattle.search.proofs.read_page.Statement.{statement}
+use Rattle.search.proofs.read_page.Tie as tie
 
 calculate-page-index-requires : tie.Need-calculate-page-index-requires
 calculate-page-index-requires c κs = (c .before .before .pre .0 .good, c .before .before .pre .1 .low, c .before .before .pre .1 .high)

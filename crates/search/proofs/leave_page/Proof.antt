@@ -1,12 +1,12 @@
--- `peek::leave_page` meets its contract: the tests are those of the plan, in their order. Assumes nothing.
+-- `search::leave_page` meets its contract: the tests are those of the plan, in their order. Assumes nothing.
 use borrow.Author.Needs.{needs}
 use mathlib.Core.Path.{sym, _∙_}
 use mathlib.Core.Logic.{⊎-elim}
 use borrow.Author.Tests.{eqb-true, eqb-false}
-use Rattle.peek.proofs.Standing.{start-readable}
-use Rattle.peek.proofs.Leaving.{leave-fails, leave-open, leave-round, leave-kept, leave-erased}
-use Rattle.peek.proofs.leave_page.Statement.{statement}
-use Rattle.peek.proofs.leave_page.Tie as tie
+use Rattle.search.proofs.Standing.{start-readable}
+use Rattle.search.proofs.Leaving.{leave-fails, leave-open, leave-round, leave-kept, leave-erased}
+use Rattle.search.proofs.leave_page.Statement.{statement}
+use Rattle.search.proofs.leave_page.Tie as tie
 
 next-page-requires : tie.Need-next-page-requires
 next-page-requires c κs = c .before .pre .1

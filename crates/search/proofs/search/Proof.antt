@@ -1,4 +1,4 @@
--- `peek::search` meets its contract: the second step begins where the first one ended. Assumes nothing.
+-- `search::search` meets its contract: the second step begins where the first one ended. Assumes nothing.
 use borrow.Author.Needs.{needs}
 use mathlib.Core.Path.{ap}
 use Rattle.paper.specs.Chip.{settled}
@@ -6,9 +6,9 @@ use Rattle.paper.specs.Calls.{searchOn, spoilt}
 use Rattle.paper.specs.Calls as calls
 use Rattle.chip.proofs.Binding.{showed-bind-cut, showed-bind-then, showed-turned, showed-kept}
 use Rattle.page.specs.Searches.{chosenAs}
-use Rattle.peek.proofs.Standing.{start-readable}
-use Rattle.peek.proofs.search.Statement.{statement}
-use Rattle.peek.proofs.search.Tie as tie
+use Rattle.search.proofs.Standing.{start-readable}
+use Rattle.search.proofs.search.Statement.{statement}
+use Rattle.search.proofs.search.Tie as tie
 
 find-start-requires : tie.Need-find-start-requires
 find-start-requires c κs = c .before .before .before .pre

@@ -22,9 +22,9 @@ use Rattle.item.specs.Places.{after, Inside}
 use Rattle.item.specs.Reading.{itemOf, copies, readAs, ReadIs}
 use Rattle.item.specs.Scanning.{walkFrom, lives, Reaches}
 use Rattle.item.proofs.ReadingHeads.{readOn, read-on, read-lives}
-use Rattle.peek.specs.Turns.{afterItems, readTurn}
-use Rattle.peek.specs.Meanings.{headOf, ItemIn}
-use Rattle.peek.specs.Searching.{Copied}
+use Rattle.search.specs.Turns.{afterItems, readTurn}
+use Rattle.search.specs.Meanings.{headOf, ItemIn}
+use Rattle.search.specs.Searching.{Copied}
 
 -- ---- one item
 

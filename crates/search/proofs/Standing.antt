@@ -9,7 +9,7 @@ use Rattle.laws.proofs.Standing.{page-of-start}
 use Rattle.chip.specs.Within.{Within}
 use Rattle.chip.proofs.Geometry.{data-in}
 use Rattle.item.specs.Places.{Inside}
-use Rattle.peek.specs.Meanings.{ReadableFrom}
+use Rattle.search.specs.Meanings.{ReadableFrom}
 
 pub start-readable : {g : Geometry} {n p a : ℕ} → Within g n → p < g .pages → a ≡ dataStart g p → ReadableFrom g a
 unfolding pageStart
