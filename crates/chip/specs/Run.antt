@@ -6,6 +6,9 @@ use Prim.Native.Nat.{ℕ, _-_}
 use lib.Dec.{ltb}
 use Rattle.paper.specs.declared.Geometry.{Geometry}
 use Rattle.paper.specs.Chip.{Event, imageAfter, bufferAfter, storeCount, before, Plan}
+use Rattle.paper.specs.declared.Refusal.the-variants as refusal
+use Rattle.paper.specs.Refusals.{Answer, refused}
+use Rattle.paper.specs.Calls.{limited}
 use Rattle.chip.specs.declared.Budget.{Budget}
 use Rattle.chip.specs.declared.Spent.{Spent}
 
@@ -59,3 +62,13 @@ pub record Whole {A : Type 0} (g : Geometry) (p : Plan A) (i o : List ℕ) (x : 
 pub record WholeShown {A : Type 0} (g : Geometry) (p : Plan A) (i o d e : List ℕ) (x : A) : Type 0 where
   pub whole : Whole g p i o x
   pub buffer : e ≡ bufferAfter g (p .events) i d
+
+-- ---- the whole call or the limited one, by a budget
+
+-- what a call whose plan is p does under the budget b: with a limit it may be cut
+abbrev pub under : Budget → Plan Answer → Plan Answer
+under b p = cond (b .limited) (limited (b .left) p) p
+
+-- what it answers where it spent r and came to x
+abbrev pub unlessCut : Spent → Answer → Answer
+unlessCut r x = cond (r .cut) (refused refusal.Cut) x

@@ -6,10 +6,11 @@ use Prim.Native.Nat.{ℕ, _<_}
 use Rattle.paper.specs.declared.Geometry.{Geometry}
 use Rattle.paper.specs.declared.PageState.{PageState}
 use Rattle.paper.specs.declared.PageState.the-variants.{Open, PartialOpen, Closed, Corrupted}
-use Rattle.paper.specs.Chip.{Try, fails, gives}
+use Rattle.paper.specs.declared.Refusal.the-variants as refusal
+use Rattle.paper.specs.Chip.{Try, fails, gives, settled}
 use Rattle.paper.specs.Scan.{pageWalk, anyLive}
 use Rattle.paper.specs.Pages.{same}
-use Rattle.paper.specs.Refusals.{Answer}
+use Rattle.paper.specs.Refusals.{Answer, refused}
 use Rattle.paper.specs.Calls.{fit, space, spaceBy}
 use Rattle.item.specs.Headers.{availableAs}
 use Rattle.count.specs.declared.Count.{Count}
@@ -26,6 +27,10 @@ countOf count.SpaceLeft g = space g
 abbrev pub countedAs : Counted → Try Unit Answer
 countedAs counted.Corrupted = fails tt
 countedAs (counted.Given room) = gives (availableAs room)
+
+-- what a count answers that came to that
+abbrev pub answered : Counted → Answer
+answered r = settled (refused refusal.Corrupted) (countedAs r)
 
 -- whether all of page p may be used, by its state and, where that is Closed, by its items
 unfoldable pub emptyBy : Geometry → List ℕ → ℕ → PageState → Bool

@@ -1,19 +1,19 @@
 // The counts, and the erase of everything: find_max_fit and space_left of the Rust's src/queue/mod.rs, each with its repair, and erase_all of
 // src/lib.rs, on a checked geometry and under a budget of stores.
 ghost use mathlib.Core.Path.{_≡_};
+ghost use mathlib.Core.Bool.{false};
 ghost use Prim.Native.Nat.{_<_};
 ghost use lib.ListN.{length};
 ghost use Rattle.paper.specs.declared.PageState.the-variants.{PartialOpen};
-ghost use Rattle.paper.specs.Chip.{dataSize, gives, settled};
+ghost use Rattle.paper.specs.Chip.{dataSize, gives};
 ghost use Rattle.paper.specs.Scan.{pageWalk};
 ghost use Rattle.paper.specs.Pages.{state, next};
-ghost use Rattle.paper.specs.Refusals.{number, refused, fitAs, spaceAs, erasedAs};
-ghost use Rattle.paper.specs.declared.Refusal.the-variants as refusal;
+ghost use Rattle.paper.specs.Refusals.{number, none, fitAs, spaceAs, erasedAs};
 ghost use Rattle.paper.specs.Calls.{longest, fitBy, fit, findMaxFit, space, spaceLeft, counted, eraseAll};
 ghost use Rattle.chip.specs.Within.{Good, Within};
-ghost use Rattle.chip.specs.Run.{Ran};
+ghost use Rattle.chip.specs.Run.{Ran, Whole, under, unlessCut};
 ghost use Rattle.page.specs.Table.{Table};
-ghost use Rattle.count.specs.Counts.{countOf, countedAs, emptyBy, SpaceIs};
+ghost use Rattle.count.specs.Counts.{countOf, countedAs, answered, emptyBy, SpaceIs};
 use chip::Budget;
 use chip::MAX_PAGES;
 use chip::Page;
@@ -28,22 +28,6 @@ use paper::PageState;
 use paper::Refusal;
 use paper::Space;
 
-// What each call answers, and what it spent. A call that is cut has no answer: what stands there then has no say.
-pub struct Fitting {
-    pub spent: Spent,
-    pub answer: Fit,
-}
-
-pub struct Spacing {
-    pub spent: Spent,
-    pub answer: Space,
-}
-
-pub struct Erasing {
-    pub spent: Spent,
-    pub answer: Erased,
-}
-
 // The two counts. Neither stores anything; the repair between two runs of one does.
 enum Count {
     MaxFit,
@@ -56,7 +40,7 @@ enum Counted {
     Given(Available),
 }
 
-// What a count with its repair comes to.
+// What a count with its repair comes to, and what it spent. Where it was cut, what stands beside `spent` has no say.
 struct Counting {
     spent: Spent,
     counted: Counted,
@@ -64,21 +48,29 @@ struct Counting {
 
 // ---- find_max_fit
 
-pub fn find_max_fit(image: &mut [u8], b: Budget, g: Geometry) -> Fitting
+pub fn find_max_fit(image: &mut [u8], b: Budget, g: Geometry) -> Fit
     requires { ⌜ Within g (length (now image)) ⌝ }
-    ensures { λ r. ⌜ Ran g b (findMaxFit g (now (image .entry))) (now (image .entry)) (now (image .exit)) (r .spent) (fitAs (r .answer)) ⌝ }
+    ensures { λ r. ⌜ Whole g (under b (findMaxFit g (now (image .entry)))) (now (image .entry)) (now (image .exit)) (fitAs r) ⌝ }
 {
-    let r = run_with_auto_repair(image, b, g, Count::MaxFit);
-    let spent = r.spent;
-    let counted = r.counted;
-    let answer = match counted {
+    fit_by(run_with_auto_repair(image, b, g, Count::MaxFit))
+}
+
+// What it answers, by what the count came to.
+fn fit_by(counting: Counting) -> Fit
+    ensures { λ r. ⌜ fitAs r ≡ unlessCut (counting .spent) (answered (counting .counted)) ⌝ }
+{
+    let spent = counting.spent;
+    if spent.cut {
+        return Fit::Refused(Refusal::Cut);
+    }
+    let counted = counting.counted;
+    match counted {
         Counted::Corrupted => Fit::Refused(Refusal::Corrupted),
         Counted::Given(room) => match room {
             Available::Bytes(n) => Fit::Longest(n),
             Available::Nothing => Fit::Nothing,
         },
-    };
-    Fitting { spent, answer }
+    }
 }
 
 fn find_max_fit_inner(image: &[u8], g: Geometry) -> Counted
@@ -132,22 +124,31 @@ fn whole_page(g: Geometry) -> Counted
 
 // ---- space_left
 
-pub fn space_left(image: &mut [u8], b: Budget, g: Geometry) -> Spacing
+pub fn space_left(image: &mut [u8], b: Budget, g: Geometry) -> Space
     requires { ⌜ Within g (length (now image)) ⌝ }
-    ensures { λ r. ⌜ Ran g b (spaceLeft g (now (image .entry))) (now (image .entry)) (now (image .exit)) (r .spent) (spaceAs (r .answer)) ⌝ }
+    ensures { λ r. ⌜ Whole g (under b (spaceLeft g (now (image .entry)))) (now (image .entry)) (now (image .exit)) (spaceAs r) ⌝ }
 {
-    let r = run_with_auto_repair(image, b, g, Count::SpaceLeft);
-    let spent = r.spent;
-    let counted = r.counted;
-    let answer = match counted {
+    space_by(run_with_auto_repair(image, b, g, Count::SpaceLeft))
+}
+
+// What it answers, by what the count came to.
+fn space_by(counting: Counting) -> Space
+    requires { ⌜ (counting .spent .cut ≡ false → answered (counting .counted) ≡ none → ⊥) ⌝ }
+    ensures { λ r. ⌜ spaceAs r ≡ unlessCut (counting .spent) (answered (counting .counted)) ⌝ }
+{
+    let spent = counting.spent;
+    if spent.cut {
+        return Space::Refused(Refusal::Cut);
+    }
+    let counted = counting.counted;
+    match counted {
         Counted::Corrupted => Space::Refused(Refusal::Corrupted),
         Counted::Given(room) => match room {
             Available::Bytes(n) => Space::Left(n),
             // Never so: a sum is a number.
             Available::Nothing => Space::Left(0),
         },
-    };
-    Spacing { spent, answer }
+    }
 }
 
 // The sum fits: it is below 64 times 2^32.
@@ -220,7 +221,7 @@ fn is_page_empty(image: &[u8], g: Geometry, page: Page, state: PageState) -> boo
 // The count; where it meets a Corrupted page, once more after a repair.
 fn run_with_auto_repair(image: &mut [u8], b: Budget, g: Geometry, count: Count) -> Counting
     requires { ⌜ Within g (length (now image)) ⌝ }
-    ensures { λ r. ⌜ Ran g b (counted g (now (image .entry)) (countOf count g)) (now (image .entry)) (now (image .exit)) (r .spent) (settled (refused refusal.Corrupted) (countedAs (r .counted))) ⌝ }
+    ensures { λ r. ⌜ Ran g b (counted g (now (image .entry)) (countOf count g)) (now (image .entry)) (now (image .exit)) (r .spent) (answered (r .counted)) ⌝ }
 {
     let first = run(&image[..], g, count);
     match first {
@@ -257,25 +258,19 @@ fn run(image: &[u8], g: Geometry, count: Count) -> Counted
 
 // ---- erase_all
 
-pub fn erase_all(image: &mut [u8], b: Budget, g: Geometry) -> Erasing
+pub fn erase_all(image: &mut [u8], b: Budget, g: Geometry) -> Erased
     requires { ⌜ Within g (length (now image)) ⌝ }
-    ensures { λ r. ⌜ Ran g b (eraseAll g) (now (image .entry)) (now (image .exit)) (r .spent) (erasedAs (r .answer)) ⌝ }
+    ensures { λ r. ⌜ Whole g (under b (eraseAll g)) (now (image .entry)) (now (image .exit)) (erasedAs r) ⌝ }
 {
     let mut budget = b;
     let mut p = 0;
     while p < g.pages {
         let spent = chip::erase_page(image, budget, g, Page(p));
         if spent.cut {
-            return Erasing {
-                spent,
-                answer: Erased::Refused(Refusal::Cut),
-            };
+            return Erased::Refused(Refusal::Cut);
         }
         budget = spent.budget;
         p += 1;
     }
-    Erasing {
-        spent: Spent { cut: false, budget },
-        answer: Erased::Done,
-    }
+    Erased::Done
 }

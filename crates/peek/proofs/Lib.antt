@@ -1,7 +1,1 @@
-pub mod ReadingItems
-pub mod Standing
-pub mod Turning
-pub mod Leaving
-pub mod Beginning
 pub mod Popping
-pub mod OtherCases

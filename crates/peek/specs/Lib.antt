@@ -1,3 +1,1 @@
-pub mod Turns
-pub mod Meanings
-pub mod Searching
+pub mod Shows

@@ -9,11 +9,11 @@ ghost use lib.ListN.{length};
 ghost use Rattle.paper.specs.Chip.{erasePage, bind, gives};
 ghost use Rattle.paper.specs.Scan.{pageWalk, anyLive};
 ghost use Rattle.paper.specs.Pages.{state, setStart, setEnd, next};
-ghost use Rattle.paper.specs.Refusals.{pushedAs};
+ghost use Rattle.paper.specs.Refusals.{done, pushedAs};
 ghost use Rattle.paper.specs.Calls.{tooBig, takePage, turnPage, findSpot, spotOn, spotStep, spotFor, pushAt};
 ghost use Rattle.paper.specs.Calls as calls;
 ghost use Rattle.chip.specs.Within.{Good, Within};
-ghost use Rattle.chip.specs.Run.{Did, Ran};
+ghost use Rattle.chip.specs.Run.{Did, Ran, Whole, under, unlessCut};
 ghost use Rattle.push.specs.Trying.{triedAs, Finds};
 use chip::Address;
 use chip::Budget;
@@ -27,12 +27,6 @@ use paper::PageState;
 use paper::Pushed;
 use paper::Refusal;
 
-// What a push spent, and its answer. Where it was cut, the answer has no say.
-pub struct Pushing {
-    pub spent: Spent,
-    pub answer: Pushed,
-}
-
 // What the search for a spot comes to: it fails with Corrupted, the storage is full, or the item is to begin at an address.
 enum Tried {
     Fails,
@@ -40,7 +34,7 @@ enum Tried {
     At(Address),
 }
 
-// The same for the search.
+// The same, and what was spent. Where the search was cut, its answer has no say.
 struct Trying {
     spent: Spent,
     answer: Tried,
@@ -51,18 +45,12 @@ const LENGTH_LIMIT: usize = 65535;
 
 // ---- the call
 
-pub fn push(image: &mut [u8], b: Budget, g: Geometry, slip: &[u8], over: bool) -> Pushing
+pub fn push(image: &mut [u8], b: Budget, g: Geometry, slip: &[u8], over: bool) -> Pushed
     requires { ⌜ Within g (length (now image)) ⌝ }
-    ensures { λ r. ⌜ Ran g b (calls.push g (now (image .entry)) (now (slip .entry)) over) (now (image .entry)) (now (image .exit)) (r .spent) (pushedAs (r .answer)) ⌝ }
+    ensures { λ r. ⌜ Whole g (under b (calls.push g (now (image .entry)) (now (slip .entry)) over)) (now (image .entry)) (now (image .exit)) (pushedAs r) ⌝ }
 {
     if is_too_big(g, slip.len()) {
-        return Pushing {
-            spent: Spent {
-                cut: false,
-                budget: b,
-            },
-            answer: Pushed::Refused(Refusal::ItemTooBig),
-        };
+        return Pushed::Refused(Refusal::ItemTooBig);
     }
     push_inner(image, b, g, slip, over)
 }
@@ -80,33 +68,31 @@ fn is_too_big(g: Geometry, n: usize) -> bool
 
 // The Rust runs the whole of its push_inner once more after a repair. Only the search for a spot fails with Corrupted, so here the repair
 // is part of the search.
-fn push_inner(image: &mut [u8], b: Budget, g: Geometry, slip: &[u8], over: bool) -> Pushing
+fn push_inner(image: &mut [u8], b: Budget, g: Geometry, slip: &[u8], over: bool) -> Pushed
     requires { ⌜ Within g (length (now image)) × (tooBig g (length (now slip)) ≡ false) ⌝ }
-    ensures { λ r. ⌜ Ran g b (bind g (now (image .entry)) (spotFor g (now (image .entry)) (length (now (slip .entry))) over) (pushAt g (now (slip .entry)))) (now (image .entry)) (now (image .exit)) (r .spent) (pushedAs (r .answer)) ⌝ }
+    ensures { λ r. ⌜ Whole g (under b (bind g (now (image .entry)) (spotFor g (now (image .entry)) (length (now (slip .entry))) over) (pushAt g (now (slip .entry))))) (now (image .entry)) (now (image .exit)) (pushedAs r) ⌝ }
 {
     let found = spot_for(image, b, g, slip.len(), over);
     let spent = found.spent;
     if spent.cut {
-        return Pushing {
-            spent,
-            answer: Pushed::Refused(Refusal::Cut),
-        };
+        return Pushed::Refused(Refusal::Cut);
     }
     let spot = found.answer;
     match spot {
-        Tried::Fails => Pushing {
-            spent,
-            answer: Pushed::Refused(Refusal::Corrupted),
-        },
-        Tried::Full => Pushing {
-            spent,
-            answer: Pushed::Refused(Refusal::FullStorage),
-        },
-        Tried::At(address) => Pushing {
-            spent: Item::write_new(image, spent.budget, g, address, slip),
-            answer: Pushed::Done,
-        },
+        Tried::Fails => Pushed::Refused(Refusal::Corrupted),
+        Tried::Full => Pushed::Refused(Refusal::FullStorage),
+        Tried::At(address) => written(Item::write_new(image, spent.budget, g, address, slip)),
     }
+}
+
+// What a push answers that wrote an item and spent that.
+fn written(spent: Spent) -> Pushed
+    ensures { λ r. ⌜ pushedAs r ≡ unlessCut spent done ⌝ }
+{
+    if spent.cut {
+        return Pushed::Refused(Refusal::Cut);
+    }
+    Pushed::Done
 }
 
 // ---- the search for a spot

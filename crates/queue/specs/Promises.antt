@@ -1,13 +1,11 @@
 -- What the public calls promise, on any shape and image. Assumes nothing.
-use mathlib.Core.Bool.{cond}
 use mathlib.Core.List.{List}
 use Prim.Native.Nat.{ℕ}
 use Rattle.paper.specs.declared.Shape.{Shape}
-use Rattle.paper.specs.Chip.{Plan}
 use Rattle.paper.specs.Refusals.{Answer, geometryOf}
 use Rattle.paper.specs.Calls.{Request, requested, limited}
 use Rattle.chip.specs.declared.Budget.{Budget}
-use Rattle.chip.specs.Run.{Whole, WholeShown}
+use Rattle.chip.specs.Run.{Whole, WholeShown, under}
 
 -- ---- the whole call
 
@@ -28,9 +26,6 @@ abbrev pub ShowsWithin : ℕ → Shape → Request → List ℕ → List ℕ →
 ShowsWithin k s c i o d e x = WholeShown (geometryOf s) (limited k (requested s i c)) i o d e x
 
 -- ---- both, under a budget
-
-abbrev pub under : Budget → Plan Answer → Plan Answer
-under b p = cond (b .limited) (limited (b .left) p) p
 
 abbrev pub AnswersUnder : Budget → Shape → Request → List ℕ → List ℕ → Answer → Type 0
 AnswersUnder b s c i o x = Whole (geometryOf s) (under b (requested s i c)) i o x

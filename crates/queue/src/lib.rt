@@ -10,7 +10,6 @@ use paper::Checked;
 use paper::Erased;
 use paper::Fit;
 use paper::Pushed;
-use paper::Refusal;
 use paper::Shape;
 use paper::Shown;
 use paper::Space;
@@ -53,14 +52,7 @@ fn push_under(image: &mut [u8], b: Budget, s: Shape, slip: &[u8], over: bool) ->
     let checked = chip::check_geometry(image.len(), s);
     match checked {
         Checked::Refused(refusal) => Pushed::Refused(refusal),
-        Checked::Accepted(g) => {
-            let r = push::push(image, b, g, slip, over);
-            if r.spent.cut {
-                return Pushed::Refused(Refusal::Cut);
-            }
-            let answer = r.answer;
-            answer
-        }
+        Checked::Accepted(g) => push::push(image, b, g, slip, over),
     }
 }
 
@@ -89,14 +81,7 @@ fn peek_under(image: &mut [u8], buffer: &mut [u8], b: Budget, s: Shape) -> Shown
     let checked = chip::check_geometry(image.len(), s);
     match checked {
         Checked::Refused(refusal) => Shown::Refused(refusal),
-        Checked::Accepted(g) => {
-            let r = peek::peek(image, buffer, b, g);
-            if r.spent.cut {
-                return Shown::Refused(Refusal::Cut);
-            }
-            let answer = r.answer;
-            answer
-        }
+        Checked::Accepted(g) => peek::peek(image, buffer, b, g),
     }
 }
 
@@ -124,14 +109,7 @@ fn pop_under(image: &mut [u8], buffer: &mut [u8], b: Budget, s: Shape) -> Shown
     let checked = chip::check_geometry(image.len(), s);
     match checked {
         Checked::Refused(refusal) => Shown::Refused(refusal),
-        Checked::Accepted(g) => {
-            let r = peek::pop(image, buffer, b, g);
-            if r.spent.cut {
-                return Shown::Refused(Refusal::Cut);
-            }
-            let answer = r.answer;
-            answer
-        }
+        Checked::Accepted(g) => peek::pop(image, buffer, b, g),
     }
 }
 
@@ -159,14 +137,7 @@ fn find_max_fit_under(image: &mut [u8], b: Budget, s: Shape) -> Fit
     let checked = chip::check_geometry(image.len(), s);
     match checked {
         Checked::Refused(refusal) => Fit::Refused(refusal),
-        Checked::Accepted(g) => {
-            let r = count::find_max_fit(image, b, g);
-            if r.spent.cut {
-                return Fit::Refused(Refusal::Cut);
-            }
-            let answer = r.answer;
-            answer
-        }
+        Checked::Accepted(g) => count::find_max_fit(image, b, g),
     }
 }
 
@@ -194,14 +165,7 @@ fn space_left_under(image: &mut [u8], b: Budget, s: Shape) -> Space
     let checked = chip::check_geometry(image.len(), s);
     match checked {
         Checked::Refused(refusal) => Space::Refused(refusal),
-        Checked::Accepted(g) => {
-            let r = count::space_left(image, b, g);
-            if r.spent.cut {
-                return Space::Refused(Refusal::Cut);
-            }
-            let answer = r.answer;
-            answer
-        }
+        Checked::Accepted(g) => count::space_left(image, b, g),
     }
 }
 
@@ -229,13 +193,6 @@ fn erase_all_under(image: &mut [u8], b: Budget, s: Shape) -> Erased
     let checked = chip::check_geometry(image.len(), s);
     match checked {
         Checked::Refused(refusal) => Erased::Refused(refusal),
-        Checked::Accepted(g) => {
-            let r = count::erase_all(image, b, g);
-            if r.spent.cut {
-                return Erased::Refused(Refusal::Cut);
-            }
-            let answer = r.answer;
-            answer
-        }
+        Checked::Accepted(g) => count::erase_all(image, b, g),
     }
 }

@@ -1,7 +1,7 @@
 -- `peek::pop_found` meets its contract: where nothing was found, nothing is stored. Assumes nothing.
 use borrow.Author.Needs.{needs}
 use Rattle.chip.proofs.Running.{did-none}
-use Rattle.peek.proofs.OtherCases.{not-present}
+use Rattle.peek.proofs.Popping.{not-present}
 use Rattle.peek.proofs.pop_found.Statement.{statement}
 use Rattle.peek.proofs.pop_found.Tie as tie
 

@@ -3,6 +3,9 @@ use borrow.Author.Needs.{needs}
 use Rattle.peek.proofs.shown_by.Statement.{statement}
 use Rattle.peek.proofs.shown_by.Tie as tie
 
+returns : tie.Need-returns
+returns c = λ g im. (rw (c .if1 .taken))
+
 enum-told : tie.Need-enum-told
 enum-told c = search needs
 
@@ -12,8 +15,8 @@ enum-known-found c = search needs
 enum-known-found-2 : tie.Need-enum-known-found-2
 enum-known-found-2 c = search needs
 
-cast-t6 : tie.Need-cast-t6
-cast-t6 c = search needs
+cast-t9 : tie.Need-cast-t9
+cast-t9 c = search needs
 
 enum-told-2 : tie.Need-enum-told-2
 enum-told-2 c = search needs
@@ -21,33 +24,34 @@ enum-told-2 c = search needs
 enum-told-3 : tie.Need-enum-told-3
 enum-told-3 c = search needs
 
-returns : tie.Need-returns
-returns c = λ g im. (rw (c .enum-told .given .1))
-
 returns-2 : tie.Need-returns-2
-returns-2 c = λ g im. (rw (c .before .found .given .1))
+returns-2 c = λ g im. (rw (c .before .before .if1 .left, c .enum-told .given .1))
 
 returns-3 : tie.Need-returns-3
-returns-3 c = λ g im. (rw (c .before .before .found2 .given .1))
+returns-3 c = λ g im. (rw (c .before .before .before .if1 .left, c .before .found .given .1))
 
 returns-4 : tie.Need-returns-4
-returns-4 c = λ g im. (rw (c .enum-told2 .given .1))
+returns-4 c = λ g im. (rw (c .before .before .before .before .if1 .left, c .before .before .found2 .given .1))
 
 returns-5 : tie.Need-returns-5
-returns-5 c = λ g im. (rw (c .enum-told3 .given .1))
+returns-5 c = λ g im. (rw (c .before .before .if1 .left, c .enum-told2 .given .1))
+
+returns-6 : tie.Need-returns-6
+returns-6 c = λ g im. (rw (c .before .before .if1 .left, c .enum-told3 .given .1))
 
 pub shown-by-spec : {M : Type 1} → statement M
 shown-by-spec =
     tie.close
     (tie.spec
+    returns
     enum-told
     enum-known-found
     enum-known-found-2
-    cast-t6
+    cast-t9
     enum-told-2
     enum-told-3
-    returns
     returns-2
     returns-3
     returns-4
-    returns-5)
+    returns-5
+    returns-6)

@@ -3,24 +3,20 @@ use borrow.Author.Needs.{needs}
 use Rattle.paper.specs.Refusals.{done}
 use Rattle.paper.specs.Calls.{at, pushAt}
 use Rattle.chip.proofs.Binding.{ran-plan, bind-cut, bind-then, bind-ends}
+use Rattle.chip.proofs.Limiting.{under-cut, under-done, ran-under}
 use Rattle.push.proofs.Sizes.{small-length}
 use Rattle.push.proofs.Spots.{holds-room}
 use Rattle.push.proofs.push_inner.Statement.{statement}
 use Rattle.push.proofs.push_inner.Tie as tie
 
 spot-for-requires : tie.Need-spot-for-requires
-spot-for-requires c κs =
-    let pre = c .before .before .before .pre in
-    pre
+spot-for-requires c κs = c .before .before .before .pre
 
 same-length : tie.Need-same-length
 same-length c = search needs
 
 returns : tie.Need-returns
-returns c =
-    let args = c .before .before .before .before .before .before .before .before .args in
-    let spot-for = c .before .before .before .before .spot-for in
-    bind-cut (pushAt (args .g) (args .slip .now)) (spot-for .ensures .ran) _ (c .if1 .taken)
+returns c = under-cut (c .before .before .before .before .before .before .before .before .args .b) _ (bind-cut (pushAt (c .before .before .before .before .before .before .before .before .args .g) (c .before .before .before .before .before .before .before .before .args .slip .now)) (c .before .before .before .before .spot-for .ensures .ran) done (c .if1 .taken)) (c .if1 .taken)
 
 enum-told : tie.Need-enum-told
 enum-told c = search needs
@@ -33,31 +29,25 @@ enum-known-spot c = search needs
 
 write-new-requires : tie.Need-write-new-requires
 write-new-requires c κs =
-    let pre = c .before .before .before .before .before .before .before .before .before .before .before .before .pre in
-    let spot-for = c .before .before .before .before .before .before .before .before .spot-for in
-    let if1 = c .before .before .before .before .if1 in
-    let w = rw (← spot-for .kept .0) at (pre .0) in
-    (holds-room w (c .before .before .spot .given .1) (spot-for .ensures .holds (if1 .left)), small-length _ _ (pre .1))
+    let w = rw (← c .before .before .before .before .before .before .before .before .spot-for .kept .0) at (c .before .before .before .before .before .before .before .before .before .before .before .before .pre .0) in
+    (holds-room w (c .before .before .spot .given .1) (c .before .before .before .before .before .before .before .before .spot-for .ensures .holds (c .before .before .before .before .if1 .left)), small-length _ _ (c .before .before .before .before .before .before .before .before .before .before .before .before .pre .1))
+
+written-requires : tie.Need-written-requires
+written-requires c κs = search needs
 
 same-length-2 : tie.Need-same-length-2
 same-length-2 c = search needs
 
 returns-2 : tie.Need-returns-2
 unfolding pushAt
-returns-2 c =
-    let args = c .before .before .before .before .before .before .before .before .before .before .args in
-    let spot-for = c .before .before .before .before .before .before .spot-for in
-    bind-ends (pushAt (args .g) (args .slip .now)) (spot-for .ensures .ran) (c .before .before .if1 .left) _ (rw (c .enum-told .given .1))
+returns-2 c = under-done (c .before .before .before .before .before .before .before .before .before .before .args .b) _ (bind-ends (pushAt (c .before .before .before .before .before .before .before .before .before .before .args .g) (c .before .before .before .before .before .before .before .before .before .before .args .slip .now)) (c .before .before .before .before .before .before .spot-for .ensures .ran) (c .before .before .if1 .left) _ (rw (c .enum-told .given .1))) (c .before .before .if1 .left)
 
 same-length-3 : tie.Need-same-length-3
 same-length-3 c = search needs
 
 returns-3 : tie.Need-returns-3
 unfolding pushAt
-returns-3 c =
-    let args = c .before .before .before .before .before .before .before .before .before .before .args in
-    let spot-for = c .before .before .before .before .before .before .spot-for in
-    bind-ends (pushAt (args .g) (args .slip .now)) (spot-for .ensures .ran) (c .before .before .if1 .left) _ (rw (c .enum-told2 .given .1))
+returns-3 c = under-done (c .before .before .before .before .before .before .before .before .before .before .args .b) _ (bind-ends (pushAt (c .before .before .before .before .before .before .before .before .before .before .args .g) (c .before .before .before .before .before .before .before .before .before .before .args .slip .now)) (c .before .before .before .before .before .before .spot-for .ensures .ran) (c .before .before .if1 .left) _ (rw (c .enum-told2 .given .1))) (c .before .before .if1 .left)
 
 same-length-4 : tie.Need-same-length-4
 same-length-4 c = search needs
@@ -65,12 +55,8 @@ same-length-4 c = search needs
 returns-4 : tie.Need-returns-4
 unfolding pushAt
 returns-4 c =
-    let args = c .before .before .before .before .before .before .before .before .before .before .before .before .before .before .before .args in
-    let spot-for = c .before .before .before .before .before .before .before .before .before .before .before .spot-for in
-    let if1 = c .before .before .before .before .before .before .before .if1 in
-    let spot = c .before .before .before .before .before .spot in
-    bind-then (pushAt (args .g) (args .slip .now)) (spot-for .ensures .ran) (if1 .left)
-    (rw (spot .given .1) (ran-plan done (c .before .before .write-new .ensures)))
+    rw (c .written .ensures)
+    (ran-under {r = c .before .before .before .write-new .result} {x = done} (c .before .before .before .before .before .before .before .before .before .before .before .before .before .before .before .before .args .b) _ (bind-then (pushAt (c .before .before .before .before .before .before .before .before .before .before .before .before .before .before .before .before .args .g) (c .before .before .before .before .before .before .before .before .before .before .before .before .before .before .before .before .args .slip .now)) (c .before .before .before .before .before .before .before .before .before .before .before .before .spot-for .ensures .ran) (c .before .before .before .before .before .before .before .before .if1 .left) (rw (c .before .before .before .before .before .before .spot .given .1) (ran-plan done (c .before .before .before .write-new .ensures)))))
 
 pub push-inner-spec : {M : Type 1} → statement M
 push-inner-spec =
@@ -83,6 +69,7 @@ push-inner-spec =
     enum-told-2
     enum-known-spot
     write-new-requires
+    written-requires
     same-length-2
     returns-2
     same-length-3

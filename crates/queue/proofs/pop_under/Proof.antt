@@ -1,8 +1,8 @@
--- `queue::pop_under` meets its contract: refused with its shape, cut, or done. Assumes nothing.
+-- `queue::pop_under` meets its contract: refused with its shape, or what the accepted call promises. Assumes nothing.
 use borrow.Author.Needs.{needs}
-use Rattle.paper.specs.Calls.{planFor, popping}
-use Rattle.queue.proofs.Calls.{shows-refused, shows-cut, shows-done}
 use lib.ListN.{length}
+use Rattle.paper.specs.Calls.{planFor, popping}
+use Rattle.queue.proofs.Calls.{shows-refused, shows-accepted}
 use Rattle.queue.proofs.pop_under.Statement.{statement}
 use Rattle.queue.proofs.pop_under.Tie as tie
 
@@ -16,10 +16,10 @@ enum-known-checked-2 : tie.Need-enum-known-checked-2
 enum-known-checked-2 c = search needs
 
 pop-requires : tie.Need-pop-requires
-pop-requires c κs =
-    let check-geometry = c .before .before .before .before .before .check-geometry in
-    let checked2 = c .before .before .before .checked2 in
-    check-geometry .ensures .within _ (checked2 .given .1)
+pop-requires c κs = c .before .before .before .before .before .check-geometry .ensures .within _ (c .before .before .before .checked2 .given .1)
+
+returns : tie.Need-returns
+returns c = shows-refused (c .before .before .before .before .before .before .args .s) (c .before .before .before .before .before .before .args .image .now) (popping (length (c .before .before .before .before .before .before .args .buffer .now))) (c .before .before .before .check-geometry .ensures) _ (c .before .checked .given .1) (c .before .before .before .before .before .before .args .b) (c .before .before .before .before .before .before .args .buffer .now)
 
 same-length : tie.Need-same-length
 same-length c = search needs
@@ -27,38 +27,9 @@ same-length c = search needs
 same-length-2 : tie.Need-same-length-2
 same-length-2 c = search needs
 
-returns : tie.Need-returns
-unfolding planFor
-returns c =
-    let args = c .before .before .before .before .before .before .before .before .before .before .before .before .before .before .args in
-    let check-geometry = c .before .before .before .before .before .before .before .before .before .before .before .check-geometry in
-    let checked2 = c .before .before .before .before .before .before .before .before .before .checked2 in
-    let pop = c .before .before .before .before .before .pop in
-    shows-cut (args .s) (args .image .now) (popping (length (args .buffer .now))) (check-geometry .ensures) (checked2 .given .1)
-    (pop .ensures) (c .if1 .taken)
-
 returns-2 : tie.Need-returns-2
-returns-2 c =
-    let args = c .before .before .before .before .before .before .args in
-    let check-geometry = c .before .before .before .check-geometry in
-    shows-refused (args .s) (args .image .now) (popping (length (args .buffer .now))) (check-geometry .ensures) _
-    (c .before .checked .given .1) (args .b) (args .buffer .now)
-
-same-length-3 : tie.Need-same-length-3
-same-length-3 c = search needs
-
-same-length-4 : tie.Need-same-length-4
-same-length-4 c = search needs
-
-returns-3 : tie.Need-returns-3
 unfolding planFor
-returns-3 c =
-    let args = c .before .before .before .before .before .before .before .before .before .before .before .before .before .before .args in
-    let check-geometry = c .before .before .before .before .before .before .before .before .before .before .before .check-geometry in
-    let checked2 = c .before .before .before .before .before .before .before .before .before .checked2 in
-    let pop = c .before .before .before .before .before .pop in
-    shows-done (args .s) (args .image .now) (popping (length (args .buffer .now))) (check-geometry .ensures) (checked2 .given .1)
-    (pop .ensures) (c .if1 .left)
+returns-2 c = shows-accepted (c .before .before .before .before .before .before .before .before .before .before .before .before .before .args .s) (c .before .before .before .before .before .before .before .before .before .before .before .before .before .args .image .now) (popping (length (c .before .before .before .before .before .before .before .before .before .before .before .before .before .args .buffer .now))) (c .before .before .before .before .before .before .before .before .before .before .check-geometry .ensures) (c .before .before .before .before .before .before .before .before .checked2 .given .1) (c .before .before .before .before .before .before .before .before .before .before .before .before .before .args .b) (c .before .before .before .before .pop .ensures)
 
 pub pop-under-spec : {M : Type 1} → statement M
 pop-under-spec =
@@ -68,10 +39,7 @@ pop-under-spec =
     enum-known-checked
     enum-known-checked-2
     pop-requires
+    returns
     same-length
     same-length-2
-    returns
-    returns-2
-    same-length-3
-    same-length-4
-    returns-3)
+    returns-2)
