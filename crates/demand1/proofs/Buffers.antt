@@ -10,7 +10,7 @@ use Rattle.paper.specs.declared.Checked.the-variants.{Accepted}
 use Rattle.paper.specs.Chip.{roundUp, roundDown, Event, bufferAfter}
 use Rattle.paper.specs.Scan.{Head}
 use Rattle.paper.specs.Refusals.{geometryOf, check}
-use Rattle.paper.specs.Calls.{this, push, search, peek, pop, planFor}
+use Rattle.paper.specs.Calls.{this, push, search, peek, pop, planOf}
 use Rattle.laws.proofs.Accepted.{accepted-from}
 use Rattle.laws.proofs.Rounding.{round-up-fits, round-down-le, round-down-gt}
 use Rattle.demand1.specs.Rows.{Way, Seen}
@@ -36,7 +36,7 @@ module _ (g : Geometry) (im : List ℕ) (s : Shape) (e : check (length im) s ≡
   pop-shows = rw (seen .is) (lasts-front n (pop-last g n im (seen .head) met-is) (pop-does g n im .each) buf l)
 
 pub of-buffer : OfBuffer
-unfolding planFor bufferAfter
+unfolding planOf bufferAfter
 of-buffer = record {
   push-keeps = λ g im slip buf over. tail-stays g im buf (push g im slip over .events) 0
       (push-does {P = Copies 0} (λ a word. tt) (λ p. tt) g over im slip .each) (omega arith) .1;

@@ -17,7 +17,7 @@ use Rattle.paper.specs.declared.Refusal.the-variants as refusal
 use Rattle.paper.specs.Chip.{roundUp}
 use Rattle.paper.specs.Refusals as paper
 use Rattle.paper.specs.Refusals.{Rule, rules, judge, check, allowedWord, geometryOf, pageCount}
-use Rattle.paper.specs.Calls.{planned, call, planFor, requested}
+use Rattle.paper.specs.Calls.{planned, call, planOf, requested}
 use Rattle.demand1.specs.Shapes.{Iff, rowNumber, Broken, OfShape}
 use Rattle.demand1.proofs.Lists.{never}
 use Rattle.demand1.proofs.Tells.{Tells, yes, no, tells-eq, tells-lt, tells-or, tells-not, tells-same}
@@ -143,6 +143,6 @@ unfolding requested call
 of-shape = record {
   refuses = check-refuses;
   accepts = check-accepts;
-  answered = λ s im c r e. ap (λ (t : Checked). planned t (λ g. planFor g im c) .answer) e;
-  unchanged = λ s im c r e. ap (λ (t : Checked). planned t (λ g. planFor g im c) .events) e;
+  answered = λ s im c r e. ap (λ (t : Checked). planned t (λ g. planOf g im c) .answer) e;
+  unchanged = λ s im c r e. ap (λ (t : Checked). planned t (λ g. planOf g im c) .events) e;
 }

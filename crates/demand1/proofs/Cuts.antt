@@ -15,7 +15,7 @@ use Rattle.paper.specs.declared.Checked.the-variants.{Accepted, Refused}
 use Rattle.paper.specs.declared.Refusal.the-variants as refusal
 use Rattle.paper.specs.Chip.{Event, store, erase, copy, storeCount, before, Plan, plan}
 use Rattle.paper.specs.Refusals.{check, Answer, number, none, refused}
-use Rattle.paper.specs.Calls.{eraseAll, Request, pushing, peeking, popping, fitting, measuring, erasing, planned, call, planFor, requested, limited}
+use Rattle.paper.specs.Calls.{eraseAll, Call, pushes, peeks, pops, fits, spaces, erasesAll, planned, call, planOf, requested, limited}
 use Rattle.laws.proofs.Accepted.{Laid, accepted-from}
 use Rattle.demand1.specs.Rows.{OfCut}
 use Rattle.demand1.proofs.Lists.{never}
@@ -33,26 +33,26 @@ counts : {a : Answer} → (a ≡ none) ⊎ ((k : ℕ) × (a ≡ number k)) → N
 counts (inl d) e = never (cc)
 counts (inr d) e = let f = d .1 in never (cc)
 
-plan-uncut : {g : Geometry} {n : ℕ} → Laid g n → (im : List ℕ) → length im ≡ n → (c : Request) → NotCut (planFor g im c .answer)
-unfolding planFor eraseAll
-plan-uncut {g} S im size (pushing slip over) e =
+plan-uncut : {g : Geometry} {n : ℕ} → Laid g n → (im : List ℕ) → length im ≡ n → (c : Call) → NotCut (planOf g im c .answer)
+unfolding planOf eraseAll
+plan-uncut {g} S im size (pushes slip over) e =
     let d = of-push S im size slip over .otherwise (λ x. never (cc)) (λ x. never (cc)) (λ x. never (cc)) in
     never (cc)
-plan-uncut {g} S im size (peeking b) e =
-    let d = of-peek S im size b .otherwise (λ x. never (cc)) (λ k x. never (cc)) (λ x. never (cc)) in
+plan-uncut {g} S im size (peeks b) e =
+    let d = of-peek S im size (length b) .otherwise (λ x. never (cc)) (λ k x. never (cc)) (λ x. never (cc)) in
     let f = d .1 in never (cc)
-plan-uncut {g} S im size (popping b) e =
-    let d = of-pop S im size b .otherwise (λ x. never (cc)) (λ k x. never (cc)) (λ x. never (cc)) in
+plan-uncut {g} S im size (pops b) e =
+    let d = of-pop S im size (length b) .otherwise (λ x. never (cc)) (λ k x. never (cc)) (λ x. never (cc)) in
     let f = d .1 in never (cc)
-plan-uncut {g} S im size fitting e = counts (of-fit g im .otherwise (λ x. never (cc))) e
-plan-uncut {g} S im size measuring e = counts (of-space g im .otherwise (λ x. never (cc))) e
-plan-uncut {g} S im size erasing e = never (cc)
+plan-uncut {g} S im size fits e = counts (of-fit g im .otherwise (λ x. never (cc))) e
+plan-uncut {g} S im size spaces e = counts (of-space g im .otherwise (λ x. never (cc))) e
+plan-uncut {g} S im size erasesAll e = never (cc)
 
-requested-uncut : (s : Shape) (im : List ℕ) (c : Request) → NotCut (requested s im c .answer)
+requested-uncut : (s : Shape) (im : List ℕ) (c : Call) → NotCut (requested s im c .answer)
 unfolding requested call
 requested-uncut s im c = by (check (length im) s) refl
   where
-    by : (t : Checked) → check (length im) s ≡ t → NotCut (planned t (λ g. planFor g im c) .answer)
+    by : (t : Checked) → check (length im) s ≡ t → NotCut (planned t (λ g. planOf g im c) .answer)
     by (Accepted g) q e = plan-uncut (accepted-from (length im) s g q .laid) im refl c e
     by (Refused r) q e = let z : r ≡ refusal.Cut = cc in check-refuses (length im) s refusal.Cut .0 (q ∙ ap Refused z) .0
 

@@ -13,7 +13,7 @@ use Rattle.paper.specs.declared.Geometry.{Geometry}
 use Rattle.paper.specs.declared.Refusal.the-variants as refusal
 use Rattle.paper.specs.Chip.{Event, storeCount, before, imageAfter, bufferAfter, Plan, plan}
 use Rattle.paper.specs.Refusals.{geometryOf, check, Answer, refused}
-use Rattle.paper.specs.Calls.{Request, pushing, peeking, popping, fitting, measuring, erasing, planned, call, planFor, requested, limited}
+use Rattle.paper.specs.Calls.{Call, pushes, peeks, pops, fits, spaces, erasesAll, planned, call, planOf, requested, limited}
 use Rattle.laws.proofs.Accepted.{Laid, accepted-is, accepted-from}
 use Rattle.demand1.specs.Range.{Lies, Each, Outside, Agree, afterLimit, bufferLimit, InRange}
 use Rattle.demand1.proofs.Lists.{each-before}
@@ -24,16 +24,16 @@ use Rattle.demand1.proofs.PushLies.{both-push}
 use Rattle.demand1.proofs.SearchLies.{both-peek, both-pop}
 use Rattle.demand1.proofs.CountLies.{both-fit, both-space, both-erase}
 
-both-for : {g : Geometry} {n : ℕ} → Laid g n → (c : Request) (im jm : List ℕ) → Alike g n im jm → Both g Any (planFor g im c) (planFor g jm c)
-unfolding planFor
-both-for S (pushing slip over) im jm L = both-push S slip over im jm L
-both-for S (peeking b) im jm L = both-peek S b im jm L
-both-for S (popping b) im jm L = both-pop S b im jm L
-both-for S fitting im jm L = both-fit S im jm L
-both-for S measuring im jm L = both-space S im jm L
-both-for S erasing im jm L = both-erase S
+both-for : {g : Geometry} {n : ℕ} → Laid g n → (c : Call) (im jm : List ℕ) → Alike g n im jm → Both g Any (planOf g im c) (planOf g jm c)
+unfolding planOf
+both-for S (pushes slip over) im jm L = both-push S slip over im jm L
+both-for S (peeks b) im jm L = both-peek S (length b) im jm L
+both-for S (pops b) im jm L = both-pop S (length b) im jm L
+both-for S fits im jm L = both-fit S im jm L
+both-for S spaces im jm L = both-space S im jm L
+both-for S erasesAll im jm L = both-erase S
 
-events-lie : (g : Geometry) (im : List ℕ) (s : Shape) → check (length im) s ≡ Accepted g → (c : Request) → Each (Lies g) (planFor g im c .events)
+events-lie : (g : Geometry) (im : List ℕ) (s : Shape) → check (length im) s ≡ Accepted g → (c : Call) → Each (Lies g) (planOf g im c .events)
 events-lie g im s e c = let S = accepted-from (length im) s g e .laid in both-for S c im im (alike-self S im refl) .lies
 
 -- ---- outside
@@ -58,15 +58,15 @@ module _ (s : Shape) (im : List ℕ) where
       })
 
   -- what a call may do in place of its plan: nothing but the plan's own events
-  module _ (c : Request) (some : Plan Answer → List Event)
+  module _ (c : Call) (some : Plan Answer → List Event)
       (less : (P : Event → Type 0) (p : Plan Answer) → Each P (p .events) → Each P (some p))
       (none : (a : Answer) → some (plan [] a) ≡ []) where
     held : Held s im (some (requested s im c))
     unfolding requested call
     held = on (check (length im) s) refl
       where
-        on : (t : Checked) → check (length im) s ≡ t → Held s im (some (planned t (λ g. planFor g im c)))
-        on (Accepted g) e = lie-held g e (some (planFor g im c)) (less (Lies g) (planFor g im c) (events-lie g im s e c))
+        on : (t : Checked) → check (length im) s ≡ t → Held s im (some (planned t (λ g. planOf g im c)))
+        on (Accepted g) e = lie-held g e (some (planOf g im c)) (less (Lies g) (planOf g im c) (events-lie g im s e c))
         on (Refused r) e = rw (none (refused r)) none-held
 
 -- a limited plan makes no event but the plan's
@@ -98,12 +98,12 @@ module _ (n : ℕ) (s : Shape) (g : Geometry) (q : check n s ≡ Accepted g) whe
   alike-agree : (im jm : List ℕ) → Alike g n im jm → Agree s im jm
   alike-agree im jm L = (L .long ∙ sym (L .also), rw (size-is, ← accepted-from n s g q .starts-at) (L .same))
 
-module _ (s : Shape) (im jm : List ℕ) (A : Agree s im jm) (c : Request) where
+module _ (s : Shape) (im jm : List ℕ) (A : Agree s im jm) (c : Call) where
   no-say : requested s im c ≡ requested s jm c
   unfolding requested call
-  no-say = on (check (length im) s) refl ∙ ap (λ (x : ℕ). planned (check x s) (λ g. planFor g jm c)) (A .0)
+  no-say = on (check (length im) s) refl ∙ ap (λ (x : ℕ). planned (check x s) (λ g. planOf g jm c)) (A .0)
     where
-      on : (t : Checked) → check (length im) s ≡ t → planned t (λ g. planFor g im c) ≡ planned t (λ g. planFor g jm c)
+      on : (t : Checked) → check (length im) s ≡ t → planned t (λ g. planOf g im c) ≡ planned t (λ g. planOf g jm c)
       on (Refused r) q = refl
       on (Accepted g) q = both-for (accepted-from (length im) s g q .laid) c im jm (agree-alike (length im) s g q im jm refl A) .one
 
@@ -114,26 +114,26 @@ module _ (s : Shape) (im jm : List ℕ) (A : Agree s im jm) (c : Request) where
     unfolding requested call imageAfter
     same-image = on (check (length im) s) refl
       where
-        on : (t : Checked) → check (length im) s ≡ t → (let es = limited k (planned t (λ g. planFor g im c)) .events in
+        on : (t : Checked) → check (length im) s ≡ t → (let es = limited k (planned t (λ g. planOf g im c)) .events in
             Agree s (imageAfter (geometryOf s) es im) (imageAfter (geometryOf s) es jm))
         on (Refused r) q = rw (limited-none k (refused r)) A
         on (Accepted g) q =
             let S = accepted-from (length im) s g q .laid in
-            let h = limited-less k (Lies g) (planFor g im c) (events-lie g im s q c) in
+            let h = limited-less k (Lies g) (planOf g im c) (events-lie g im s q c) in
             rw (accepted-is (length im) s g q)
-            (alike-agree (length im) s g q _ _ (alike-after S (limited k (planFor g im c) .events) (agree-alike (length im) s g q im jm refl A) h))
+            (alike-agree (length im) s g q _ _ (alike-after S (limited k (planOf g im c) .events) (agree-alike (length im) s g q im jm refl A) h))
 
     same-buffer : (buf : List ℕ) → bufferLimit k s im c buf ≡ bufferAfter (geometryOf s) (limited k (requested s im c) .events) jm buf
     unfolding requested call bufferAfter
     same-buffer buf = on (check (length im) s) refl
       where
-        on : (t : Checked) → check (length im) s ≡ t → (let es = limited k (planned t (λ g. planFor g im c)) .events in
+        on : (t : Checked) → check (length im) s ≡ t → (let es = limited k (planned t (λ g. planOf g im c)) .events in
             bufferAfter (geometryOf s) es im buf ≡ bufferAfter (geometryOf s) es jm buf)
         on (Refused r) q = rw (limited-none k (refused r))
         on (Accepted g) q =
             let S = accepted-from (length im) s g q .laid in
-            let h = limited-less k (Lies g) (planFor g im c) (events-lie g im s q c) in
-            rw (accepted-is (length im) s g q) (alike-buffer S (limited k (planFor g im c) .events) (agree-alike (length im) s g q im jm refl A) h buf)
+            let h = limited-less k (Lies g) (planOf g im c) (events-lie g im s q c) in
+            rw (accepted-is (length im) s g q) (alike-buffer S (limited k (planOf g im c) .events) (agree-alike (length im) s g q im jm refl A) h buf)
 
 pub in-range : InRange
 unfolding Held

@@ -11,7 +11,7 @@ use Rattle.paper.specs.Chip.{roundUp, roundDown, headerSize, Event, store, eras
 use Rattle.paper.specs.Scan.{Head, live}
 use Rattle.paper.specs.declared.Refusal.{Refusal}
 use Rattle.paper.specs.Refusals.{geometryOf, check, shown}
-use Rattle.paper.specs.Calls.{met, readHeads, peek, pop, Request, pushing, planFor, requested}
+use Rattle.paper.specs.Calls.{met, readHeads, peek, pop, Call, pushes, planOf, requested}
 use Rattle.demand1.specs.Range.{Each}
 use Rattle.demand1.specs.Rows.{Way, Seen}
 
@@ -23,8 +23,8 @@ Copies m (copy a n) = n ≤ m
 
 pub record OfBuffer : Type 0 where
   -- "On refusals 2, 3 and 9 to 17 the data buffer keeps its bytes": a push copies nothing, and a refused shape does nothing
-  pub push-keeps : (g : Geometry) (im slip buf : List ℕ) (over : Bool) → bufferAfter g (planFor g im (pushing slip over) .events) im buf ≡ buf
-  pub shape-keeps : (s : Shape) (im buf : List ℕ) (c : Request) (r : Refusal) → check (length im) s ≡ Refused r
+  pub push-keeps : (g : Geometry) (im slip buf : List ℕ) (over : Bool) → bufferAfter g (planOf g im (pushes slip over) .events) im buf ≡ buf
+  pub shape-keeps : (s : Shape) (im buf : List ℕ) (c : Call) (r : Refusal) → check (length im) s ≡ Refused r
       → bufferAfter (geometryOf s) (requested s im c .events) im buf ≡ buf
   -- the copies of a peek or pop fit the buffer, cut or not, and "bytes past the longest copy stay"
   pub peek-fits : (g : Geometry) (im : List ℕ) (n : ℕ) → Each (Copies n) (peek g im n .events)

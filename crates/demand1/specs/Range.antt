@@ -8,18 +8,14 @@ use Rattle.paper.specs.declared.Checked.the-variants.{Accepted}
 use Rattle.paper.specs.declared.Geometry.{Geometry}
 use Rattle.paper.specs.Chip.{pageStart, part, Event, store, erase, copy, imageAfter, bufferAfter}
 use Rattle.paper.specs.Refusals.{geometryOf, check}
-use Rattle.paper.specs.Calls.{Request, planFor, requested, limited}
+use Rattle.paper.specs.Calls.{Call, planOf, requested, limited}
+pub use Rattle.paper.specs.Ways.{Each}
 
 -- "Each store touches one word or one page": one aligned word inside the range; one page of it; a copy reads inside the range
 abbrev pub Lies : Geometry → Event → Type 0
 Lies g (store a word) = (length word ≡ g .word) × (a % g .word ≡ 0) × (g .start ≤ a) × (a + g .word ≤ pageStart g (g .pages))
 Lies g (erase p) = p < g .pages
 Lies g (copy a n) = (g .start ≤ a) × (a + n ≤ pageStart g (g .pages))
-
--- every one of a list is so
-abbrev pub Each : {A : Type 0} → (A → Type 0) → List A → Type 0
-Each P [] = Unit {0}
-Each P (x ∷ xs) = P x × Each P xs
 
 -- "Bytes outside the stated range never change": i before, o afterwards
 pub record Outside (s : Shape) (i o : List ℕ) : Type 0 where
@@ -32,21 +28,21 @@ abbrev pub Agree : Shape → List ℕ → List ℕ → Type 0
 Agree s i j = (length i ≡ length j) × (part (s .start) (s .end - s .start) i ≡ part (s .start) (s .end - s .start) j)
 
 -- the image that a call leaves, whole, and with a limit of k stores; and the buffer
-abbrev pub after : Shape → List ℕ → Request → List ℕ
+abbrev pub after : Shape → List ℕ → Call → List ℕ
 after s im c = imageAfter (geometryOf s) (requested s im c .events) im
 
-abbrev pub afterLimit : ℕ → Shape → List ℕ → Request → List ℕ
+abbrev pub afterLimit : ℕ → Shape → List ℕ → Call → List ℕ
 afterLimit k s im c = imageAfter (geometryOf s) (limited k (requested s im c) .events) im
 
-abbrev pub bufferLimit : ℕ → Shape → List ℕ → Request → List ℕ → List ℕ
+abbrev pub bufferLimit : ℕ → Shape → List ℕ → Call → List ℕ → List ℕ
 bufferLimit k s im c buf = bufferAfter (geometryOf s) (limited k (requested s im c) .events) im buf
 
 pub record InRange : Type 0 where
-  pub events-lie : (g : Geometry) (im : List ℕ) (s : Shape) → check (length im) s ≡ Accepted g → (c : Request) → Each (Lies g) (planFor g im c .events)
-  pub outside-whole : (s : Shape) (im : List ℕ) (c : Request) → Outside s im (after s im c)
-  pub outside-limited : (k : ℕ) (s : Shape) (im : List ℕ) (c : Request) → Outside s im (afterLimit k s im c)
+  pub events-lie : (g : Geometry) (im : List ℕ) (s : Shape) → check (length im) s ≡ Accepted g → (c : Call) → Each (Lies g) (planOf g im c .events)
+  pub outside-whole : (s : Shape) (im : List ℕ) (c : Call) → Outside s im (after s im c)
+  pub outside-limited : (k : ℕ) (s : Shape) (im : List ℕ) (c : Call) → Outside s im (afterLimit k s im c)
   -- ".. and have no say": on images that agree on the range a call has the same events and answer, leaves images that agree, and the same
   -- buffer; with a limit from the number of its stores on it is whole
-  pub no-say : (s : Shape) (im jm : List ℕ) → Agree s im jm → (c : Request) → requested s im c ≡ requested s jm c
-  pub no-say-image : (k : ℕ) (s : Shape) (im jm : List ℕ) → Agree s im jm → (c : Request) → Agree s (afterLimit k s im c) (afterLimit k s jm c)
-  pub no-say-buffer : (k : ℕ) (s : Shape) (im jm : List ℕ) → Agree s im jm → (c : Request) (buf : List ℕ) → bufferLimit k s im c buf ≡ bufferLimit k s jm c buf
+  pub no-say : (s : Shape) (im jm : List ℕ) → Agree s im jm → (c : Call) → requested s im c ≡ requested s jm c
+  pub no-say-image : (k : ℕ) (s : Shape) (im jm : List ℕ) → Agree s im jm → (c : Call) → Agree s (afterLimit k s im c) (afterLimit k s jm c)
+  pub no-say-buffer : (k : ℕ) (s : Shape) (im jm : List ℕ) → Agree s im jm → (c : Call) (buf : List ℕ) → bufferLimit k s im c buf ≡ bufferLimit k s jm c buf

@@ -15,18 +15,11 @@ use Rattle.paper.specs.Scan.{Head, pageWalk, live, present, payloads}
 use Rattle.paper.specs.declared.PageState.the-variants.{Open, Corrupted}
 use Rattle.paper.specs.Pages.{state, same, setStart, next, from, youngest, oldest, repair}
 use Rattle.paper.specs.Refusals.{check, Answer, done, shown, number, none, empty, refused}
-use Rattle.paper.specs.Calls.{spotStep, push, peek, pop, fit, findMaxFit, space, spaceLeft, eraseAll, Request, requested, limited}
+use Rattle.paper.specs.Calls.{spotStep, push, peek, pop, fit, findMaxFit, space, spaceLeft, eraseAll, Call, requested, limited}
 use Rattle.paper.specs.Fifo.{Full}
-use Rattle.demand1.specs.Range.{Each}
+pub use Rattle.paper.specs.Ways.{Each, repaired, Fails, failed, Passed, Stops, TooLong, Seen, Way, direct, mended}
+unfoldable pub use Rattle.paper.specs.Ways.{onTheWay}
 use Rattle.demand1.specs.Shapes.{Iff}
-
--- the image after a repair
-abbrev pub repaired : Geometry → List ℕ → List ℕ
-repaired g im = imageAfter g (repair g im) im
-
--- a step failed
-pub data Fails {W A : Type 0} : Try W A → Type 0 where
-  failed : {w : W} → Fails (fails w)
 
 -- ---- the limit: row 7
 
@@ -35,7 +28,7 @@ pub record OfCut : Type 0 where
   pub stores : (k : ℕ) (p : Plan Answer) → k < storeCount (p .events) → limited k p .events ≡ before k (p .events)
   pub count : (k : ℕ) (p : Plan Answer) → k < storeCount (p .events) → storeCount (limited k p .events) ≡ k
   pub whole : (k : ℕ) (p : Plan Answer) → (k < storeCount (p .events) → ⊥) → limited k p ≡ p
-  pub answered : (k : ℕ) (s : Shape) (im : List ℕ) (c : Request)
+  pub answered : (k : ℕ) (s : Shape) (im : List ℕ) (c : Call)
       → Iff (limited k (requested s im c) .answer ≡ refused refusal.Cut) (k < storeCount (requested s im c .events))
 
 -- ---- push: rows 0, 2, 3 and 5
@@ -80,46 +73,6 @@ pub record OfPush (g : Geometry) (im slip : List ℕ) (over : Bool) (p : Plan An
       → p .answer ≡ done
 
 -- ---- peek and pop: rows 0, 1, 4 and 5
-
--- the headers on the way of a search over pages, from the oldest on: it ends before a page that is Open or Corrupted, and before the oldest
-unfoldable pub onTheWay : Geometry → List ℕ → ℕ → List ℕ → List Head
-onTheWay g im old [] = []
-onTheWay g im old (p ∷ ps) =
-    let later = onTheWay g im old ps in
-    let s = state g im (next g p) in
-    pageWalk g im p .heads ++ cond (same s Open || same s Corrupted || eqb (next g p) old) [] later
-
--- a header that a search with a buffer of n bytes goes past: popped; or torn, and the buffer takes it
-abbrev pub Passed : Geometry → ℕ → Head → Type 0
-Passed g n h = (live h ≡ false) ⊎ ((present h ≡ false) × (roundUp (g .word) (h .len) ≤ n))
-
--- the first header of a list that a search does not go past
-pub record Stops (g : Geometry) (n : ℕ) (hs : List Head) (h : Head) : Type 0 where
-  pub front : List Head
-  pub rest : List Head
-  pub all : hs ≡ front ++ (h ∷ rest)
-  pub passed : Each (Passed g n) front
-
--- it is live, and too long for the buffer: k is its rounded length
-pub record TooLong (g : Geometry) (n : ℕ) (hs : List Head) (k : ℕ) : Type 0 where
-  pub head : Head
-  pub stops : Stops g n hs head
-  pub alive : live head ≡ true
-  pub is : k ≡ roundUp (g .word) (head .len)
-  pub over : n < k
-
--- it is present, and the buffer takes it: k is its length
-pub record Seen (g : Geometry) (n : ℕ) (hs : List Head) (k : ℕ) : Type 0 where
-  pub head : Head
-  pub stops : Stops g n hs head
-  pub whole : present head ≡ true
-  pub is : k ≡ head .len
-  pub fits : roundUp (g .word) (head .len) ≤ n
-
--- where the search goes: the oldest page is found at once, or after a repair
-pub data Way (g : Geometry) (im : List ℕ) : List Head → Type 0 where
-  direct : {old : ℕ} → oldest g im ≡ gives old → Way g im (onTheWay g im old (from g old))
-  mended : {old : ℕ} → Fails (oldest g im) → oldest g (repaired g im) ≡ gives old → Way g im (onTheWay g (repaired g im) old (from g old))
 
 -- "repairs, and finished pages erased as ruled": a Corrupted page is erased, or one on which no present item stood; nothing is stored
 abbrev pub Finished : Geometry → List ℕ → Event → Type 0

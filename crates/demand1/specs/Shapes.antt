@@ -11,7 +11,7 @@ use Rattle.paper.specs.declared.Refusal.{Refusal}
 use Rattle.paper.specs.declared.Refusal.the-variants as refusal
 use Rattle.paper.specs.Chip.{roundUp}
 use Rattle.paper.specs.Refusals.{geometryOf, check, row, refused}
-use Rattle.paper.specs.Calls.{Request, requested}
+use Rattle.paper.specs.Calls.{Call, requested}
 
 -- both ways
 abbrev pub Iff : Type 0 → Type 0 → Type 0
@@ -45,5 +45,5 @@ pub record OfShape : Type 0 where
       → Iff (check n s ≡ Refused r) (Broken n s r × ((q : Refusal) → rowNumber q < rowNumber r → Broken n s q → ⊥))
   pub accepts : (n : ℕ) (s : Shape) (g : Geometry) → Iff (check n s ≡ Accepted g) ((geometryOf s ≡ g) × ((r : Refusal) → Broken n s r → ⊥))
   -- "unchanged": a call on a shape that is refused answers the refusal and does nothing
-  pub answered : (s : Shape) (im : List ℕ) (c : Request) (r : Refusal) → check (length im) s ≡ Refused r → requested s im c .answer ≡ refused r
-  pub unchanged : (s : Shape) (im : List ℕ) (c : Request) (r : Refusal) → check (length im) s ≡ Refused r → requested s im c .events ≡ []
+  pub answered : (s : Shape) (im : List ℕ) (c : Call) (r : Refusal) → check (length im) s ≡ Refused r → requested s im c .answer ≡ refused r
+  pub unchanged : (s : Shape) (im : List ℕ) (c : Call) (r : Refusal) → check (length im) s ≡ Refused r → requested s im c .events ≡ []

@@ -8,7 +8,7 @@ use Rattle.paper.specs.declared.Geometry.{Geometry}
 use Rattle.paper.specs.declared.Shape.{Shape}
 use Rattle.paper.specs.Chip.{imageAfter, bufferAfter, Plan}
 use Rattle.paper.specs.Refusals.{Answer, geometryOf}
-use Rattle.paper.specs.Calls.{Request, requested, limited}
+use Rattle.paper.specs.Calls.{Call, requested, limited}
 use Rattle.codes.specs.Codes.{codeOf}
 
 -- ---- what C passes
@@ -33,14 +33,14 @@ pub record CodedShown (g : Geometry) (p : Plan Answer) (i o d e : List ℕ) (r :
   pub buffer : e ≡ bufferAfter g (p .events) i d
 
 -- the request c on the shape s, whole and with the limit k
-abbrev pub Answers : Shape → Request → List ℕ → List ℕ → ℕ → Type 0
+abbrev pub Answers : Shape → Call → List ℕ → List ℕ → ℕ → Type 0
 Answers s c i o r = Coded (geometryOf s) (requested s i c) i o r
 
-abbrev pub AnswersWithin : ℕ → Shape → Request → List ℕ → List ℕ → ℕ → Type 0
+abbrev pub AnswersWithin : ℕ → Shape → Call → List ℕ → List ℕ → ℕ → Type 0
 AnswersWithin k s c i o r = Coded (geometryOf s) (limited k (requested s i c)) i o r
 
-abbrev pub Shows : Shape → Request → List ℕ → List ℕ → List ℕ → List ℕ → ℕ → Type 0
+abbrev pub Shows : Shape → Call → List ℕ → List ℕ → List ℕ → List ℕ → ℕ → Type 0
 Shows s c i o d e r = CodedShown (geometryOf s) (requested s i c) i o d e r
 
-abbrev pub ShowsWithin : ℕ → Shape → Request → List ℕ → List ℕ → List ℕ → List ℕ → ℕ → Type 0
+abbrev pub ShowsWithin : ℕ → Shape → Call → List ℕ → List ℕ → List ℕ → List ℕ → ℕ → Type 0
 ShowsWithin k s c i o d e r = CodedShown (geometryOf s) (limited k (requested s i c)) i o d e r

@@ -6,7 +6,7 @@ ghost use lib.ListN.{length};
 ghost use Rattle.paper.specs.Chip.{part};
 ghost use Rattle.paper.specs.Slip.{look};
 ghost use Rattle.paper.specs.Refusals.{check};
-ghost use Rattle.paper.specs.Calls.{pushing, peeking, popping, fitting, measuring, erasing};
+ghost use Rattle.paper.specs.Calls.{pushes, peeks, pops, fits, spaces, erasesAll};
 ghost use Rattle.chip.specs.Within.{Within};
 ghost use Rattle.item.specs.Places.{Inside, Room};
 ghost use Rattle.item.specs.Reading.{headAt};
@@ -54,7 +54,7 @@ pub extern "C" fn slipq_push(
     slip: &[u8],
     overwrite: u32,
 ) -> u64
-    ensures { λ r. ⌜ Answers (shapeOf start end page word) (pushing (now (slip .entry)) (isOn overwrite)) (now (image .entry)) (now (image .exit)) r ⌝ }
+    ensures { λ r. ⌜ Answers (shapeOf start end page word) (pushes (now (slip .entry)) (isOn overwrite)) (now (image .entry)) (now (image .exit)) r ⌝ }
 {
     let s = Shape {
         start,
@@ -76,7 +76,7 @@ pub extern "C" fn slipq_push_limited(
     overwrite: u32,
     limit: usize,
 ) -> u64
-    ensures { λ r. ⌜ AnswersWithin limit (shapeOf start end page word) (pushing (now (slip .entry)) (isOn overwrite)) (now (image .entry)) (now (image .exit)) r ⌝ }
+    ensures { λ r. ⌜ AnswersWithin limit (shapeOf start end page word) (pushes (now (slip .entry)) (isOn overwrite)) (now (image .entry)) (now (image .exit)) r ⌝ }
 {
     let s = Shape {
         start,
@@ -98,7 +98,7 @@ pub extern "C" fn slipq_peek(
     word: u32,
     buffer: &mut [u8],
 ) -> u64
-    ensures { λ r. ⌜ Shows (shapeOf start end page word) (peeking (length (now (buffer .entry)))) (now (image .entry)) (now (image .exit)) (now (buffer .entry)) (now (buffer .exit)) r ⌝ }
+    ensures { λ r. ⌜ Shows (shapeOf start end page word) (peeks (now (buffer .entry))) (now (image .entry)) (now (image .exit)) (now (buffer .entry)) (now (buffer .exit)) r ⌝ }
 {
     let s = Shape {
         start,
@@ -119,7 +119,7 @@ pub extern "C" fn slipq_peek_limited(
     buffer: &mut [u8],
     limit: usize,
 ) -> u64
-    ensures { λ r. ⌜ ShowsWithin limit (shapeOf start end page word) (peeking (length (now (buffer .entry)))) (now (image .entry)) (now (image .exit)) (now (buffer .entry)) (now (buffer .exit)) r ⌝ }
+    ensures { λ r. ⌜ ShowsWithin limit (shapeOf start end page word) (peeks (now (buffer .entry))) (now (image .entry)) (now (image .exit)) (now (buffer .entry)) (now (buffer .exit)) r ⌝ }
 {
     let s = Shape {
         start,
@@ -141,7 +141,7 @@ pub extern "C" fn slipq_pop(
     word: u32,
     buffer: &mut [u8],
 ) -> u64
-    ensures { λ r. ⌜ Shows (shapeOf start end page word) (popping (length (now (buffer .entry)))) (now (image .entry)) (now (image .exit)) (now (buffer .entry)) (now (buffer .exit)) r ⌝ }
+    ensures { λ r. ⌜ Shows (shapeOf start end page word) (pops (now (buffer .entry))) (now (image .entry)) (now (image .exit)) (now (buffer .entry)) (now (buffer .exit)) r ⌝ }
 {
     let s = Shape {
         start,
@@ -162,7 +162,7 @@ pub extern "C" fn slipq_pop_limited(
     buffer: &mut [u8],
     limit: usize,
 ) -> u64
-    ensures { λ r. ⌜ ShowsWithin limit (shapeOf start end page word) (popping (length (now (buffer .entry)))) (now (image .entry)) (now (image .exit)) (now (buffer .entry)) (now (buffer .exit)) r ⌝ }
+    ensures { λ r. ⌜ ShowsWithin limit (shapeOf start end page word) (pops (now (buffer .entry))) (now (image .entry)) (now (image .exit)) (now (buffer .entry)) (now (buffer .exit)) r ⌝ }
 {
     let s = Shape {
         start,
@@ -183,7 +183,7 @@ pub extern "C" fn slipq_find_max_fit(
     page: u32,
     word: u32,
 ) -> u64
-    ensures { λ r. ⌜ Answers (shapeOf start end page word) fitting (now (image .entry)) (now (image .exit)) r ⌝ }
+    ensures { λ r. ⌜ Answers (shapeOf start end page word) fits (now (image .entry)) (now (image .exit)) r ⌝ }
 {
     let s = Shape {
         start,
@@ -203,7 +203,7 @@ pub extern "C" fn slipq_find_max_fit_limited(
     word: u32,
     limit: usize,
 ) -> u64
-    ensures { λ r. ⌜ AnswersWithin limit (shapeOf start end page word) fitting (now (image .entry)) (now (image .exit)) r ⌝ }
+    ensures { λ r. ⌜ AnswersWithin limit (shapeOf start end page word) fits (now (image .entry)) (now (image .exit)) r ⌝ }
 {
     let s = Shape {
         start,
@@ -224,7 +224,7 @@ pub extern "C" fn slipq_space_left(
     page: u32,
     word: u32,
 ) -> u64
-    ensures { λ r. ⌜ Answers (shapeOf start end page word) measuring (now (image .entry)) (now (image .exit)) r ⌝ }
+    ensures { λ r. ⌜ Answers (shapeOf start end page word) spaces (now (image .entry)) (now (image .exit)) r ⌝ }
 {
     let s = Shape {
         start,
@@ -244,7 +244,7 @@ pub extern "C" fn slipq_space_left_limited(
     word: u32,
     limit: usize,
 ) -> u64
-    ensures { λ r. ⌜ AnswersWithin limit (shapeOf start end page word) measuring (now (image .entry)) (now (image .exit)) r ⌝ }
+    ensures { λ r. ⌜ AnswersWithin limit (shapeOf start end page word) spaces (now (image .entry)) (now (image .exit)) r ⌝ }
 {
     let s = Shape {
         start,
@@ -265,7 +265,7 @@ pub extern "C" fn slipq_erase_all(
     page: u32,
     word: u32,
 ) -> u64
-    ensures { λ r. ⌜ Answers (shapeOf start end page word) erasing (now (image .entry)) (now (image .exit)) r ⌝ }
+    ensures { λ r. ⌜ Answers (shapeOf start end page word) erasesAll (now (image .entry)) (now (image .exit)) r ⌝ }
 {
     let s = Shape {
         start,
@@ -285,7 +285,7 @@ pub extern "C" fn slipq_erase_all_limited(
     word: u32,
     limit: usize,
 ) -> u64
-    ensures { λ r. ⌜ AnswersWithin limit (shapeOf start end page word) erasing (now (image .entry)) (now (image .exit)) r ⌝ }
+    ensures { λ r. ⌜ AnswersWithin limit (shapeOf start end page word) erasesAll (now (image .entry)) (now (image .exit)) r ⌝ }
 {
     let s = Shape {
         start,

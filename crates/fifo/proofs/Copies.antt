@@ -64,20 +64,9 @@ last-copy g a m n im buf h k = take-append-le n (part a m im) (drop (0 + length 
 abbrev pub reads : Geometry → Head → List Event
 reads g h = copy (h .place + headerSize g) (roundUp (g .word) (h .len)) ∷ []
 
--- one of the heads is live and, rounded up to k bytes, too long for a buffer of n
-pub record Overlong (g : Geometry) (n : ℕ) (hs : List Head) (k : ℕ) : Type 0 where
-  pub head : Head
-  pub there : List·Memᴰ head hs
-  pub alive : live head ≡ true
-  pub rounded : k ≡ roundUp (g .word) (head .len)
-  pub over : n < k
-
-overlong-later : {g : Geometry} {n k : ℕ} {h : Head} {hs : List Head} → Overlong g n hs k → Overlong g n (h ∷ hs) k
-overlong-later z = record { head = z .head; there = List·Memᴰ·tail (z .there); alive = z .alive; rounded = z .rounded; over = z .over }
-
 pub data HeadsRead (g : Geometry) (n : ℕ) (hs : List Head) (m : Plan Met) : Type 0 where
   allPassed : (es : List Event) → m ≡ plan es passed → Copies es → payloads hs ≡ [] → HeadsRead g n hs m
-  tooSmall : (k : ℕ) (es : List Event) → m ≡ plan es (long k) → Copies es → Overlong g n hs k → HeadsRead g n hs m
+  tooSmall : (k : ℕ) (es : List Event) → m ≡ plan es (long k) → Copies es → HeadsRead g n hs m
   gotIt : (h : Head) (es : List Event) → m ≡ plan (es ++ reads g h) (met h) → Copies es
       → (pre post : List Head) → hs ≡ pre ++ (h ∷ post) → payloads pre ≡ [] → present h ≡ true → HeadsRead g n hs m
 
@@ -101,20 +90,18 @@ heads-read g n (h ∷ hs) im = by (live h) (ltb n size) (present h) refl refl re
     -- it is not live
     dead : present h ≡ false → HeadsRead g n hs r → HeadsRead g n (h ∷ hs) r
     dead q (allPassed es e x z) = allPassed es e x (rw q z)
-    dead q (tooSmall k es e x z) = tooSmall k es e x (overlong-later z)
+    dead q (tooSmall k es e x) = tooSmall k es e x
     dead q (gotIt h₁ es e x pre post y i p) = gotIt h₁ es e x (h ∷ pre) post (ap (λ (l : List Head). h ∷ l) y) (rw q i) p
 
     -- it is torn
     torn : present h ≡ false → HeadsRead g n hs r → HeadsRead g n (h ∷ hs) (after r)
     torn q (allPassed es e x z) = allPassed (c ∷ es) (ap after e) (aCopy x) (rw q z)
-    torn q (tooSmall k es e x z) = tooSmall k (c ∷ es) (ap after e) (aCopy x) (overlong-later z)
+    torn q (tooSmall k es e x) = tooSmall k (c ∷ es) (ap after e) (aCopy x)
     torn q (gotIt h₁ es e x pre post y i p) = gotIt h₁ (c ∷ es) (ap after e) (aCopy x) (h ∷ pre) post (ap (λ (l : List Head). h ∷ l) y) (rw q i) p
 
     by : (l s p : Bool) → live h ≡ l → ltb n size ≡ s → present h ≡ p → HeadsRead g n hs r
         → HeadsRead g n (h ∷ hs) (cond (not (live h)) r (cond (ltb n size) (plan [] (long size)) (cond (present h) (plan (c ∷ []) (met h)) (after r))))
     by false s p ql qs qp R = rw ql (dead (not-present h ql) R)
-    by true true p ql qs qp R =
-        let z : Overlong g n (h ∷ hs) size = record { head = h; there = List·Memᴰ·head refl; alive = ql; rounded = refl; over = ltb-true n size qs } in
-        rw (ql, qs) (tooSmall size [] refl noCopies z)
+    by true true p ql qs qp R = rw (ql, qs) (tooSmall size [] refl noCopies)
     by true false true ql qs qp R = rw (ql, qs, qp) (gotIt h [] refl noCopies [] hs refl refl qp)
     by true false false ql qs qp R = rw (ql, qs, qp) (torn qp R)

@@ -1,5 +1,6 @@
 -- Demand 3: every history; and that document 01's own premise gives the one assumed. Assumes nothing.
 use mathlib.Core.List.{List, [], _∷_, _++_, List·Memᴰ, List·Memᴰ·head, List·Memᴰ·tail, List·Memᴰ·not-nil, Memᴰ·append-left, Memᴰ·append-right}
+use mathlib.Core.Bool.{true, false}
 use mathlib.Core.Logic.{_⊎_, inl, inr}
 use mathlib.Core.Path.{_≡_, refl, ap₂, subst}
 use Prim.Native.Nat.{ℕ, _≤_, _<_}
@@ -8,7 +9,8 @@ use Rattle.paper.specs.declared.Geometry.{Geometry}
 use Rattle.paper.specs.Chip.{Event, store, erase, copy}
 use Rattle.paper.specs.Scan.{Head, pageWalk}
 use Rattle.paper.specs.Pages.{allPages}
-use Rattle.paper.specs.Fifo.{Call, pushes, peeks, pops, fits, spaces, erasesAll, Power, whole, cutAfter, eventsOf, imageNext, Ghost, ghostNext, headerAt, kept, outside, refusals, Begun, Fair, Reached, fresh, further, Demand3}
+use Rattle.paper.specs.Calls.{Call, pushes, peeks, pops, fits, spaces, erasesAll}
+use Rattle.paper.specs.Fifo.{Power, whole, cutAfter, eventsOf, imageNext, Ghost, ghostNext, headerAt, kept, outside, refusals, Begun, Fair, Reached, fresh, further, Demand3}
 use Rattle.laws.proofs.Accepted.{accepted-from}
 use Rattle.laws.proofs.Ring.{pages-only}
 use Rattle.fifo.specs.Claims.{LiteralEnough}
@@ -22,7 +24,8 @@ use Rattle.fifo.proofs.PeekPop.{peek-step, pop-step}
 use Rattle.fifo.proofs.OtherCalls.{fit-step, space-step, erase-step}
 
 pub step-of : {g : Geometry} {im : List ℕ} {o b : ℕ} → Inv g im o b → (gh : Ghost) (c : Call) (w : Power) → Fair g im gh c w → Step g im c w
-step-of I gh (pushes slip) w F = push-step I gh slip w F
+step-of I gh (pushes slip false) w F = push-step I gh slip w F
+step-of I gh (pushes slip true) w F = absurd (F .counted)
 step-of I gh (peeks buf) w F = peek-step I buf w
 step-of I gh (pops buf) w F = pop-step I buf gh w F
 step-of I gh fits w F = fit-step I w

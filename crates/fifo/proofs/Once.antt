@@ -12,9 +12,9 @@ use Rattle.paper.specs.Chip.{headerSize, Event, imageAfter, storeCount, before,
 use Rattle.paper.specs.Slip.{encode}
 use Rattle.paper.specs.Scan.{Head}
 use Rattle.paper.specs.Refusals.{Answer, done, shown, empty, refused}
-use Rattle.paper.specs.Calls.{at, tooBig, spotFor, shownBy, popped, this, itemAt}
+use Rattle.paper.specs.Calls.{at, tooBig, spotFor, shownBy, popped, this, itemAt, Call, pushes, peeks, pops, fits, spaces, erasesAll, planOf}
 use Rattle.paper.specs.Waiting.{waiting}
-use Rattle.paper.specs.Fifo.{Call, pushes, peeks, pops, fits, spaces, erasesAll, cutAfter, planOf, eventsOf, imageNext, ghostNext, listAfter, Bytes, Ghost, Fair, Full}
+use Rattle.paper.specs.Fifo.{cutAfter, eventsOf, imageNext, ghostNext, listAfter, Bytes, Ghost, Fair, Full}
 use Rattle.laws.proofs.Events.{image-append, before-less, before-more}
 use Rattle.laws.proofs.Sides.{Side, below, above, side}
 use Rattle.fifo.specs.Claims.{ChangesOnce, AlwaysOnce}
@@ -83,7 +83,7 @@ module _ (g : Geometry) (im : List ℕ) (c : Call) {es : List Event} {a : Answer
 
 module _ {g : Geometry} {im : List ℕ} {o b : ℕ} (I : Inv g im o b) (gh : Ghost) (slip : List ℕ) (hb : Bytes slip) (t : tooBig g (length slip) ≡ false)
     {es : List Event} {a₀ : ℕ} (R : SpotReady g im (length slip) es a₀) (q₀ : spotFor g im (length slip) false ≡ plan es (gives (at a₀)))
-    (N : Full g im (length slip) → ⊥) (Fs : (k : ℕ) → Fair g im gh (pushes slip) (cutAfter k)) where
+    (N : Full g im (length slip) → ⊥) (Fs : (k : ℕ) → Fair g im gh (pushes slip false) (cutAfter k)) where
   abbrev it : List Event
   it = itemAt g (spotOf (R .site)) slip
 
@@ -94,15 +94,15 @@ module _ {g : Geometry} {im : List ℕ} {o b : ℕ} (I : Inv g im o b) (gh : Gho
   longer = waiting g im ++ (slip ∷ [])
 
   abbrev listed : ℕ → List (List ℕ)
-  listed k = waiting g (imageNext g im (pushes slip) (cutAfter k))
+  listed k = waiting g (imageNext g im (pushes slip false) (cutAfter k))
 
-  is : planOf g im (pushes slip) ≡ plan (es ++ it) done
+  is : planOf g im (pushes slip false) ≡ plan (es ++ it) done
   is = pl I gh slip hb t R q₀ N
 
   -- after k stores, j of them the item's
   late : (k j : ℕ) → storeCount es ≤ k → k - storeCount es ≡ j → listed k ≡ waiting g (imageAfter g (before j it) jm)
   late k j h e =
-      list-at g im (pushes slip) is k (before-more k es it h ∙ ap (λ (x : ℕ). es ++ before x it) e)
+      list-at g im (pushes slip false) is k (before-more k es it h ∙ ap (λ (x : ℕ). es ++ before x it) e)
       ∙ ap (waiting g) (image-append g es (before j it) im)
 
   refused-stay : (k j : ℕ) → storeCount es ≤ k → k - storeCount es ≡ j → StayRefused g im gh (es ++ before j it)
@@ -156,17 +156,17 @@ module _ {g : Geometry} {im : List ℕ} {o b : ℕ} (I : Inv g im o b) (gh : Gho
           ∙ ap (λ (x : List (List ℕ)). x ++ (slip ∷ [])) same
 
       by : Side k (storeCount es) → listed (suc k) ≡ longer
-      by (below l) = absurd (apart (sym (list-at g im (pushes slip) is k (before-less k es it l) ∙ steady-after (steady-before k (R .steady)) .list) ∙ e))
+      by (below l) = absurd (apart (sym (list-at g im (pushes slip false) is k (before-less k es it l) ∙ steady-after (steady-before k (R .steady)) .list) ∙ e))
       by (above l) = on (side j n)
         where
           on : Side j n → listed (suc k) ≡ longer
           on (below m) = next-word l m (side (j * g .word) (headerSize g))
           on (above m) = all (suc k) (omega arith)
 
-  push-once : ChangesOnce g im (pushes slip)
+  push-once : ChangesOnce g im (pushes slip false)
   push-once =
       let r = threshold either stays (storeCount es + n) (all (storeCount es + n) (omega arith)) in
-      record { at = r .0; before = r .1; after = λ k h. r .2 k h ∙ after-is g im (pushes slip) is (waiting g im) }
+      record { at = r .0; before = r .1; after = λ k h. r .2 k h ∙ after-is g im (pushes slip false) is (waiting g im) }
 
 -- ---- pop
 
@@ -205,21 +205,22 @@ module _ {g : Geometry} {im : List ℕ} {o b : ℕ} (I : Inv g im o b) (gh : Gho
 -- ---- every call
 
 once : {g : Geometry} {im : List ℕ} {o b : ℕ} → Inv g im o b → (gh : Ghost) (c : Call) → ((k : ℕ) → Fair g im gh c (cutAfter k)) → ChangesOnce g im c
-once {g} {im} I gh (pushes slip) Fs = by (tooBig g (length slip)) refl
+once {g} {im} I gh (pushes slip false) Fs = by (tooBig g (length slip)) refl
   where
-    on : tooBig g (length slip) ≡ false → Spotted g im (length slip) (spotFor g im (length slip) false) → ChangesOnce g im (pushes slip)
-    on t (isFull q F) = steady-once g im (pushes slip) (plan-full g im slip t q) (idle I) refl
+    on : tooBig g (length slip) ≡ false → Spotted g im (length slip) (spotFor g im (length slip) false) → ChangesOnce g im (pushes slip false)
+    on t (isFull q F) = steady-once g im (pushes slip false) (plan-full g im slip t q) (idle I) refl
     on t (isAt es a q R N) = push-once I gh slip (Fs 0 .slip) t R q N Fs
 
-    by : (t : Bool) → tooBig g (length slip) ≡ t → ChangesOnce g im (pushes slip)
-    by true t = steady-once g im (pushes slip) (plan-big g im slip t) (idle I) refl
+    by : (t : Bool) → tooBig g (length slip) ≡ t → ChangesOnce g im (pushes slip false)
+    by true t = steady-once g im (pushes slip false) (plan-big g im slip t) (idle I) refl
     by false t = on t (spotted-for I (length slip) (small-enough g (length slip) t .1))
+once I gh (pushes slip true) Fs = absurd (Fs 0 .counted)
 once {g} {im} I gh (peeks buf) Fs = steady-once g im (peeks buf) (peekpop.peek-plan I buf) (peekpop.sought I buf .steady) refl
 once {g} {im} I gh (pops buf) Fs = by (peekpop.sought I buf .result)
   where
     by : Result g (waiting g im) im (length buf) (peekpop.sought I buf .events) (peekpop.sought I buf .out) → ChangesOnce g im (pops buf)
     by (isNothing a z) = steady-once g im (pops buf) (peekpop.idle-plan I buf empty (ap (popped g) a) (ap shownBy a)) (peekpop.sought I buf .steady) refl
-    by (isShort k a p hp z) =
+    by (isShort k a) =
         let p = peekpop.idle-plan I buf (refused (refusal.BufferTooSmall k)) (ap (popped g) a) (ap shownBy a) in
         steady-once g im (pops buf) p (peekpop.sought I buf .steady) refl
     by (isThis h a X) = pop-once I gh buf h a X Fs

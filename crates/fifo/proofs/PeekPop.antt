@@ -7,15 +7,20 @@ use native.Mathlib.Omega.{arith}
 use lib.ListN.{length, take}
 use Rattle.paper.specs.declared.Geometry.{Geometry}
 use Rattle.paper.specs.declared.Refusal.the-variants as refusal
-use Rattle.paper.specs.Chip.{put, Event, imageAfter, bufferAfter, storeCount, before, writes, plan}
+use Rattle.paper.specs.Chip.{put, Event, imageAfter, bufferAfter, storeCount, before, writes, Plan, plan}
 use Rattle.paper.specs.Slip.{encode}
 use Rattle.paper.specs.Scan.{Head, pageWalk}
 use Rattle.paper.specs.Refusals.{Answer, shown, empty, refused}
-use Rattle.paper.specs.Calls.{Outcome, this, shownBy, popped, peek, pop}
+use Rattle.paper.specs.Calls.{Outcome, this, shownBy, popped, peek, pop, peeks, pops, planOf}
+use Rattle.paper.specs.Pages.{from}
 use Rattle.paper.specs.Waiting.{waiting}
-use Rattle.paper.specs.Fifo.{peeks, pops, Power, whole, cutAfter, planOf, eventsOf, imageNext, Ghost, ghostNext, Fair, TooLong, Plain, showsNone, showsNot, shows, takesNone, takesNot, takes}
+use Rattle.paper.specs.Ways.{onTheWay, Seen, Way, direct}
+use Rattle.paper.specs.Fifo.{Power, whole, cutAfter, eventsOf, imageNext, Ghost, ghostNext, Fair, Plain, showsNone, showsNot, shows, takesNone, takesNot, takes}
 use Rattle.laws.proofs.Events.{image-append, buffer-append, before-less, before-more}
 use Rattle.laws.proofs.Sides.{Side, below, above, side}
+use Rattle.demand1.specs.Rows.{OfSearch}
+use Rattle.demand1.proofs.SearchRows.{of-peek, of-pop}
+use Rattle.fifo.proofs.RingShape.{oldest-is}
 use Rattle.fifo.proofs.Events.{Avoids, avoid-append, avoid-before}
 use Rattle.fifo.proofs.Words.{buffer-writes, before-write, avoid-writes}
 use Rattle.fifo.proofs.Plans.{bind-known, bind-last}
@@ -24,18 +29,18 @@ use Rattle.fifo.proofs.ZeroedScan.{zeros4}
 use Rattle.fifo.proofs.Invariant.{Inv}
 use Rattle.fifo.proofs.Steady.{steady-before, steady-after, was-there}
 use Rattle.fifo.proofs.Ghosts.{StayRefused, unmet}
-use Rattle.fifo.proofs.Copies.{Overlong}
 use Rattle.fifo.proofs.Popping.{FirstPresent, first-in, body-length, zeroed, zeroed-all, first-listed, popped-inv, popped-list, popped-heads}
 use Rattle.fifo.proofs.Search.{Found, Result, isNothing, isShort, isThis, Searched, searched}
 use Rattle.fifo.proofs.Step.{Traced, Step, whole-step, cut-step, early-step, steady-step}
 
 -- a list that begins with s, of which n bytes are shown
-module _ (g : Geometry) (im b buf : List ℕ) {s : List ℕ} {n : ℕ} (e : length s ≡ n) (t : take n buf ≡ s) {q l : List (List ℕ)} (f : q ≡ s ∷ l) where
+module _ (g : Geometry) (im b buf : List ℕ) {s : List ℕ} {n : ℕ} (e : length s ≡ n) (t : take n buf ≡ s) {q l : List (List ℕ)} (f : q ≡ s ∷ l)
+    {hs : List Head} (w : Way g im hs) (v : Seen g (length b) hs n) where
   shows-first : Plain g im (peeks b) (shown n) buf q q
-  shows-first = rw (f, ← e) (shows (rw (← e) at t))
+  shows-first = rw (f, ← e) (shows w (rw (← e) at v) (rw (← e) at t))
 
   takes-first : {r : List (List ℕ)} → r ≡ tail q → Plain g im (pops b) (shown n) buf q r
-  takes-first {r} k = let z : r ≡ l = k ∙ ap tail f in rw (f, z, ← e) (takes (rw (← e) at t))
+  takes-first {r} k = let z : r ≡ l = k ∙ ap tail f in rw (f, z, ← e) (takes w (rw (← e) at v) (rw (← e) at t))
 
 module _ {g : Geometry} {im : List ℕ} {o b : ℕ} (I : Inv g im o b) (buf : List ℕ) where
   pub sought : Searched g im (length buf)
@@ -50,17 +55,9 @@ module _ {g : Geometry} {im : List ℕ} {o b : ℕ} (I : Inv g im o b) (buf : Li
   same-list : waiting g (imageAfter g (sought .events) im) ≡ waiting g im
   same-list = steady-after (sought .steady) .list
 
-  -- a header that was too long was there from the start
-  too-long : {k : ℕ} (p : ℕ) → p < g .pages → Overlong g (length buf) (pageWalk g (imageAfter g (sought .events) im) p .heads) k → TooLong g im (length buf) k
-  too-long p hp z = record {
-    page = p;
-    inside = hp;
-    head = z .head;
-    there = was-there (sought .steady) p hp (z .head) (z .there) .0;
-    alive = z .alive;
-    rounded = z .rounded;
-    over = z .over;
-  }
+  -- the search begins at the oldest page
+  the-way : Way g im (onTheWay g im o (from g o))
+  the-way = direct (oldest-is g im o b (I .shape))
 
   -- ---- peek
 
@@ -68,20 +65,38 @@ module _ {g : Geometry} {im : List ℕ} {o b : ℕ} (I : Inv g im o b) (buf : Li
   unfolding planOf peek
   peek-plan = bind-last g im (λ o im₁. plan [] (shownBy o)) (sought .is) refl
 
+  -- demand 1 says what it met
+  peek-rows : OfSearch g im (length buf) (peek g im (length buf))
+  peek-rows = of-peek (I .good) im refl (length buf)
+
+  peek-says : {a : Outcome} → sought .out ≡ a → peek g im (length buf) .answer ≡ shownBy a
+  unfolding planOf
+  peek-says e = ap (λ (p : Plan Answer). p .answer) peek-plan ∙ ap shownBy e
+
   pub peek-step : (w : Power) → Step g im (peeks buf) w
   peek-step w = steady-step im (peeks buf) peek-plan (sought .steady) (by (sought .result)) w
     where
       by : Result g (waiting g im) im (length buf) E (sought .out)
           → Plain g im (peeks buf) (shownBy (sought .out)) (bufferAfter g E im buf) (waiting g im) (waiting g im)
-      by (isNothing a z) = rw (a, z) showsNone
-      by (isShort k a p hp z) = rw a (showsNot (too-long p hp z))
-      by (isThis h a X) = rw a (shows-first g im buf (bufferAfter g E im buf) (body-length (X .first)) (X .shown buf) (sym same-list ∙ first-listed (X .first)))
+      by (isNothing a z) = rw (a, z) (showsNone the-way (peek-rows .none the-way .0 (peek-says a)))
+      by (isShort k a) = rw a (showsNot the-way (peek-rows .short the-way k .0 (peek-says a)))
+      by (isThis h a X) =
+          let v = peek-rows .seen the-way (h .len) .0 (peek-says a) in
+          let f = sym same-list ∙ first-listed (X .first) in
+          rw a (shows-first g im buf (bufferAfter g E im buf) (body-length (X .first)) (X .shown buf) f the-way v)
 
   -- ---- pop
 
   pub pop-plan : planOf g im (pops buf) ≡ plan (sought .events ++ popped g (sought .out)) (shownBy (sought .out))
   unfolding planOf pop
   pop-plan = bind-known g im (λ o im₁. plan (popped g o) (shownBy o)) (sought .is)
+
+  pop-rows : OfSearch g im (length buf) (pop g im (length buf))
+  pop-rows = of-pop (I .good) im refl (length buf)
+
+  pop-says : {a : Outcome} → sought .out ≡ a → pop g im (length buf) .answer ≡ shownBy a
+  unfolding planOf
+  pop-says e = ap (λ (p : Plan Answer). p .answer) pop-plan ∙ ap shownBy e
 
   -- nothing was found
   pub idle-plan : (a : Answer) → popped g (sought .out) ≡ [] → shownBy (sought .out) ≡ a → planOf g im (pops buf) ≡ plan (sought .events) a
@@ -130,8 +145,9 @@ module _ {g : Geometry} {im : List ℕ} {o b : ℕ} (I : Inv g im o b) (buf : Li
         let shown-buf : List ℕ = bufferAfter g E im buf in
         let B : bufferAfter g (E ++ wr) im buf ≡ shown-buf = buffer-append g E wr im buf ∙ buffer-writes g (h .place) (encode g 0 (h .len)) fin shown-buf in
         let f = sym same-list ∙ first-listed F in
+        let v = pop-rows .seen the-way (h .len) .0 (pop-says a) in
         whole-step im (pops buf) pl (taken-inv wr avoids st z)
-        (rw B (takes-first g im buf shown-buf (body-length F) (X .shown buf) f (taken-list wr avoids st z))) (taken-traced wr avoids st z whole)
+        (rw B (takes-first g im buf shown-buf (body-length F) (X .shown buf) f the-way v (taken-list wr avoids st z))) (taken-traced wr avoids st z whole)
     found-step (cutAfter k) Fr = by (side k (storeCount E))
       where
         later : storeCount E ≤ k → Side 0 (k - storeCount E) → Step g im (pops buf) (cutAfter k)
@@ -155,8 +171,8 @@ module _ {g : Geometry} {im : List ℕ} {o b : ℕ} (I : Inv g im o b) (buf : Li
   pop-step gh w Fr = by (sought .result)
     where
       by : Result g (waiting g im) im (length buf) E (sought .out) → Step g im (pops buf) w
-      by (isNothing a z) = steady-step im (pops buf) (idle-plan empty (ap (popped g) a) (ap shownBy a)) (sought .steady) (rw z takesNone) w
-      by (isShort k a p hp z) =
+      by (isNothing a z) = steady-step im (pops buf) (idle-plan empty (ap (popped g) a) (ap shownBy a)) (sought .steady) (rw z (takesNone the-way (pop-rows .none the-way .0 (pop-says a)))) w
+      by (isShort k a) =
           let no : Answer = refused (refusal.BufferTooSmall k) in
-          steady-step im (pops buf) (idle-plan no (ap (popped g) a) (ap shownBy a)) (sought .steady) (takesNot (too-long p hp z)) w
+          steady-step im (pops buf) (idle-plan no (ap (popped g) a) (ap shownBy a)) (sought .steady) (takesNot the-way (pop-rows .short the-way k .0 (pop-says a))) w
       by (isThis h a X) = found-step gh h a X w Fr

@@ -17,16 +17,17 @@ use Rattle.paper.specs.Slip.{bytesOf, numberOf, encode, blank, decode, look}
 use Rattle.paper.specs.Scan.{Head, onward, walk, pageWalk, walkOn, freeSpot, serves, live, anyLive, present, payloads}
 use Rattle.paper.specs.Pages.{zeroBits, isSet, startMark, endMark, state, setStart, next, around, from, allPages, first, youngest, oldest}
 use Rattle.paper.specs.Refusals.{allowedWord, pageCount, rules, geometryOf, judge, check}
-use Rattle.paper.specs.Calls.{retry, withRepair, tooBig, findSpot, spotOn, spotStep, spotFor, itemAt, pushAt, push, readHeads, onMet, readPage, nextItem, nextStep, startStep, searchOn, search, pop}
+use Rattle.paper.specs.Calls.{retry, withRepair, tooBig, findSpot, spotOn, spotStep, spotFor, itemAt, pushAt, push, readHeads, onMet, readPage, nextItem, nextStep, startStep, searchOn, search, pop, Call, pushes, peeks, pops, fits, spaces, erasesAll, planOf}
 use Rattle.paper.specs.Waiting.{waitingOn, waiting}
-use Rattle.paper.specs.Fifo.{Call, pushes, peeks, pops, fits, spaces, erasesAll, Power, whole, cutAfter, Counted, slipOf, planOf, eventsOf, imageNext, headerPlan, headerAt, Ghost, kept, refusals, ghostNext, NoneAgain, NoPassing, Bytes, Fair, Erased, Reached, fresh, further}
+use Rattle.paper.specs.Fifo.{Power, whole, cutAfter, Counted, slipOf, eventsOf, imageNext, headerPlan, headerAt, Ghost, kept, refusals, ghostNext, NoneAgain, NoPassing, Bytes, Fair, Erased, Reached, fresh, further}
 use Rattle.fifo.specs.Premises.{Step, imageOf, ghostOf, AllFair, listsOf, strip, blankStrip, noGhost, mishaps, PremisesMet}
 use Rattle.fifo.proofs.Blank.{and-true}
 
 -- ---- the premises as tests, on a range of one page
 
 counts : Call → Power → Bool
-counts (pushes slip) w = true
+counts (pushes slip false) w = true
+counts (pushes slip true) w = false
 counts (peeks buf) w = true
 counts (pops buf) w = true
 counts fits w = true
@@ -77,7 +78,8 @@ not-true false e = refl
 
 counts-holds : (c : Call) (w : Power) → counts c w ≡ true → Counted c w
 unfolding counts
-counts-holds (pushes slip) w e = tt
+counts-holds (pushes slip false) w e = tt
+counts-holds (pushes slip true) w e = let f : false ≡ true = e in let z : _≡_ {A = ℕ} 0 1 = cc in omega arith
 counts-holds (peeks buf) w e = tt
 counts-holds (pops buf) w e = tt
 counts-holds fits w e = tt

@@ -14,9 +14,9 @@ use Rattle.paper.specs.declared.Refusal.the-variants as refusal
 use Rattle.paper.specs.Chip.{wordsFor, headerSize, dataSize, Event, imageAfter, storeCount, before, plan, bind, gives}
 use Rattle.paper.specs.Scan.{pageWalk}
 use Rattle.paper.specs.Refusals.{done, refused}
-use Rattle.paper.specs.Calls.{full, at, tooBig, spotFor, itemAt, pushAt, push}
+use Rattle.paper.specs.Calls.{full, at, tooBig, spotFor, itemAt, pushAt, push, pushes, planOf}
 use Rattle.paper.specs.Waiting.{waiting}
-use Rattle.paper.specs.Fifo.{pushes, Power, whole, cutAfter, planOf, eventsOf, imageNext, Ghost, ghostNext, headerPlan, headerAt, got, Bytes, Fair, Full, added, big, noRoom}
+use Rattle.paper.specs.Fifo.{Power, whole, cutAfter, eventsOf, imageNext, Ghost, ghostNext, headerPlan, headerAt, got, Bytes, Fair, Full, added, big, noRoom}
 use Rattle.laws.proofs.Events.{image-append, before-less, before-more, before-all}
 use Rattle.laws.proofs.Sides.{Side, below, above, side}
 use Rattle.fifo.proofs.Sizes.{header-ge}
@@ -46,25 +46,25 @@ small-enough g n t = by (ltb 65535 n) (ltb (dataSize g) (headerSize g + n)) refl
 -- ---- the plan, by cases
 
 module _ (g : Geometry) (im slip : List ℕ) where
-  pub plan-big : tooBig g (length slip) ≡ true → planOf g im (pushes slip) ≡ plan [] (refused refusal.ItemTooBig)
+  pub plan-big : tooBig g (length slip) ≡ true → planOf g im (pushes slip false) ≡ plan [] (refused refusal.ItemTooBig)
   unfolding planOf push
   plan-big t = rw t
 
   module _ (t : tooBig g (length slip) ≡ false) where
-    plan-spot : planOf g im (pushes slip) ≡ bind g im (spotFor g im (length slip) false) (pushAt g slip)
+    plan-spot : planOf g im (pushes slip false) ≡ bind g im (spotFor g im (length slip) false) (pushAt g slip)
     unfolding planOf push
     plan-spot = rw t
 
-    pub plan-full : spotFor g im (length slip) false ≡ plan [] (gives full) → planOf g im (pushes slip) ≡ plan [] (refused refusal.FullStorage)
+    pub plan-full : spotFor g im (length slip) false ≡ plan [] (gives full) → planOf g im (pushes slip false) ≡ plan [] (refused refusal.FullStorage)
     unfolding pushAt
     plan-full q = plan-spot ∙ bind-known g im (pushAt g slip) q
 
     module _ (es : List Event) (a : ℕ) (q : spotFor g im (length slip) false ≡ plan es (gives (at a))) where
-      pub plan-at : planOf g im (pushes slip) ≡ plan (es ++ itemAt g a slip) done
+      pub plan-at : planOf g im (pushes slip false) ≡ plan (es ++ itemAt g a slip) done
       unfolding pushAt
       plan-at = plan-spot ∙ bind-known g im (pushAt g slip) q
 
-      header-is : (w : Power) (n : ℕ) → got w (storeCount es + n) ≡ true → headerAt g im (pushes slip) w n ≡ a ∷ []
+      header-is : (w : Power) (n : ℕ) → got w (storeCount es + n) ≡ true → headerAt g im (pushes slip false) w n ≡ a ∷ []
       unfolding headerAt headerPlan
       header-is w n e = rw (t, q, e)
 
@@ -103,12 +103,12 @@ module _ {g : Geometry} {im : List ℕ} {o b : ℕ} (I : Inv g im o b) (gh : Gho
       let q = image-append g es (before j it) im in
       rw q (adding W j (words-clear j F) (rw q at P))
 
-  words-traced : (w : Power) (j : ℕ) → (0 < j → headerAt g im (pushes slip) w 0 ≡ spotOf (R .site) ∷ [])
-      → Added (R .site) slip j (imageAfter g (es ++ before j it) im) → Traced g im (pushes slip) w (es ++ before j it)
+  words-traced : (w : Power) (j : ℕ) → (0 < j → headerAt g im (pushes slip false) w 0 ≡ spotOf (R .site) ∷ [])
+      → Added (R .site) slip j (imageAfter g (es ++ before j it) im) → Traced g im (pushes slip false) w (es ++ before j it)
   words-traced w j H A p hp h m = by (A .heads p hp h m)
     where
       by : ((h .place ≡ a) × (0 < j)) ⊎ List·Memᴰ h (pageWalk g jm p .heads)
-          → List·Memᴰ (h .place) (headerAt g im (pushes slip) w 0) ⊎ Was g im p (h .place) (es ++ before j it)
+          → List·Memᴰ (h .place) (headerAt g im (pushes slip false) w 0) ⊎ Was g im p (h .place) (es ++ before j it)
       by (inl x) = inl (rw (H (x .1)) (List·Memᴰ·head (x .0)))
       by (inr x) =
           let r = was-there (R .steady) p hp h x in
@@ -118,7 +118,7 @@ module _ {g : Geometry} {im : List ℕ} {o b : ℕ} (I : Inv g im o b) (gh : Gho
     q : spotFor g im (length slip) false ≡ plan es (gives (at (spotOf (R .site))))
     q = q₀ ∙ ap (λ (x : ℕ). plan es (gives (at x))) (R .at-spot)
 
-    pub pl : planOf g im (pushes slip) ≡ plan (es ++ it) done
+    pub pl : planOf g im (pushes slip false) ≡ plan (es ++ it) done
     pl = plan-at g im slip t es a q
 
     -- k stores are the marks and the whole header
@@ -132,7 +132,7 @@ module _ {g : Geometry} {im : List ℕ} {o b : ℕ} (I : Inv g im o b) (gh : Gho
             let y : (k - storeCount es) * g .word ≤ 0 * g .word = mul-le-mul-right (g .word) z in
             let w : ⊥ = omega (arith, header-ge g (I .good .low)) in absurd w
 
-    pub at-step : (w : Power) → Fair g im gh (pushes slip) w → Step g im (pushes slip) w
+    pub at-step : (w : Power) → Fair g im gh (pushes slip false) w → Step g im (pushes slip false) w
     unfolding imageNext ghostNext eventsOf
     at-step whole F =
         let n : ℕ = itemWords g slip in
@@ -141,14 +141,14 @@ module _ {g : Geometry} {im : List ℕ} {o b : ℕ} (I : Inv g im o b) (gh : Gho
         let A = words-added n F₁ (λ h k. let z : ⊥ = omega arith in absurd z) in
         let T = words-traced whole n (λ k. header-is g im slip t es a q whole 0 refl) A in
         let l = A .all (omega arith) ∙ ap (λ (x : List (List ℕ)). x ++ (slip ∷ [])) same-list in
-        whole-step im (pushes slip) pl {o = S .old} {b = S .runs} (rw all at (A .inv)) (added t N (rw all at l)) (rw all at T)
+        whole-step im (pushes slip false) pl {o = S .old} {b = S .runs} (rw all at (A .inv)) (added t N (rw all at l)) (rw all at T)
     at-step (cutAfter k) F = by (side k (storeCount es))
       where
-        begun : (n : ℕ) → storeCount es + n < k → headerAt g im (pushes slip) (cutAfter k) n ≡ a ∷ []
+        begun : (n : ℕ) → storeCount es + n < k → headerAt g im (pushes slip false) (cutAfter k) n ≡ a ∷ []
         begun n h = header-is g im slip t es a q (cutAfter k) n (lt-ltb (storeCount es + n) k h)
 
-        by : Side k (storeCount es) → Step g im (pushes slip) (cutAfter k)
-        by (below l) = early-step im (pushes slip) pl k (before-less k es it l) (steady-before k (R .steady))
+        by : Side k (storeCount es) → Step g im (pushes slip false) (cutAfter k)
+        by (below l) = early-step im (pushes slip false) pl k (before-less k es it l) (steady-before k (R .steady))
         by (above l) =
             let j : ℕ = k - storeCount es in
             let m : ℕ = wordsFor (g .word) (headerSize g) - 1 in
@@ -158,19 +158,19 @@ module _ {g : Geometry} {im : List ℕ} {o b : ℕ} (I : Inv g im o b) (gh : Gho
             λ h z. rw (pl, bm) at (F .noPassing a (rw (begun m (past-header k l h)) (List·Memᴰ·head refl))) in
             let A = words-added j F₁ P₁ in
             let T = words-traced (cutAfter k) j (λ h. begun 0 (omega arith)) A in
-            cut-step im (pushes slip) pl k {o = S .old} {b = S .runs} (rw bm (A .inv)) (rw bm (rw same-list at (A .list))) (rw bm T)
+            cut-step im (pushes slip false) pl k {o = S .old} {b = S .runs} (rw bm (A .inv)) (rw bm (rw same-list at (A .list))) (rw bm T)
 
-pub push-step : {g : Geometry} {im : List ℕ} {o b : ℕ} → Inv g im o b → (gh : Ghost) (slip : List ℕ) (w : Power) → Fair g im gh (pushes slip) w
-    → Step g im (pushes slip) w
+pub push-step : {g : Geometry} {im : List ℕ} {o b : ℕ} → Inv g im o b → (gh : Ghost) (slip : List ℕ) (w : Power) → Fair g im gh (pushes slip false) w
+    → Step g im (pushes slip false) w
 push-step {g} {im} {o} {b} I gh slip w F = by (tooBig g (length slip)) refl
   where
     idle : Steady g (waiting g im) im []
     idle = rests (record { old = o; runs = b; inv = I; list = refl })
 
-    on : tooBig g (length slip) ≡ false → Spotted g im (length slip) (spotFor g im (length slip) false) → Step g im (pushes slip) w
-    on t (isFull q f) = steady-step im (pushes slip) (plan-full g im slip t q) idle (noRoom t f) w
+    on : tooBig g (length slip) ≡ false → Spotted g im (length slip) (spotFor g im (length slip) false) → Step g im (pushes slip false) w
+    on t (isFull q f) = steady-step im (pushes slip false) (plan-full g im slip t q) idle (noRoom t f) w
     on t (isAt es a q R N) = at-step I gh slip (F .slip) t R q N w F
 
-    by : (t : Bool) → tooBig g (length slip) ≡ t → Step g im (pushes slip) w
-    by true t = steady-step im (pushes slip) (plan-big g im slip t) idle (big t) w
+    by : (t : Bool) → tooBig g (length slip) ≡ t → Step g im (pushes slip false) w
+    by true t = steady-step im (pushes slip false) (plan-big g im slip t) idle (big t) w
     by false t = on t (spotted-for I (length slip) (small-enough g (length slip) t .1))

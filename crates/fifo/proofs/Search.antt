@@ -24,7 +24,7 @@ use Rattle.fifo.proofs.Changed.{walk-other, erase-changed, erased-walk}
 use Rattle.fifo.proofs.Invariant.{Inv, listed}
 use Rattle.fifo.proofs.Erasing.{erase-inv, erase-list}
 use Rattle.fifo.proofs.Steady.{Keeps, Steady, rests, goes, erased, steady-append}
-use Rattle.fifo.proofs.Copies.{Copies, noCopies, aCopy, copies-append, copies-image, copies-steady, copies-avoid, image-on, buffer-on, last-copy, reads, HeadsRead, Overlong, allPassed, tooSmall, gotIt, heads-read}
+use Rattle.fifo.proofs.Copies.{Copies, noCopies, aCopy, copies-append, copies-image, copies-steady, copies-avoid, image-on, buffer-on, last-copy, reads, HeadsRead, allPassed, tooSmall, gotIt, heads-read}
 use Rattle.fifo.proofs.NextPage.{endsAt, Ahead, stops, leads, Behind, ahead, leave-stop, leave-on}
 use Rattle.fifo.proofs.Popping.{FirstPresent, first-in, not-empty, body-at, body-length}
 
@@ -38,7 +38,7 @@ pub record Found (g : Geometry) (jm : List ℕ) (es : List Event) (h : Head) : T
 -- what a search of the list q with a buffer of n bytes comes to
 pub data Result (g : Geometry) (q : List (List ℕ)) (jm : List ℕ) (n : ℕ) (es : List Event) (out : Outcome) : Type 0 where
   isNothing : out ≡ nothing → q ≡ [] → Result g q jm n es out
-  isShort : (k : ℕ) → out ≡ short k → (p : ℕ) → p < g .pages → Overlong g n (pageWalk g (imageAfter g es jm) p .heads) k → Result g q jm n es out
+  isShort : (k : ℕ) → out ≡ short k → Result g q jm n es out
   isThis : (h : Head) → out ≡ this h → Found g jm es h → Result g q jm n es out
 
 -- the search from page p's first item on
@@ -129,19 +129,19 @@ module _ {g : Geometry} {jm : List ℕ} {o b : ℕ} (I : Inv g jm o b) {old : �
 
           by : Result g q km n (R .events) (R .out) → Result g q jm n (es ++ (erase o ∷ R .events)) (R .out)
           by (isNothing a x) = isNothing a x
-          by (isShort m a p hp x) = isShort m a p hp (rw is-image x)
+          by (isShort m a) = isShort m a
           by (isThis h a x) = isThis h a (found h x)
 
     -- a live header is too long for the buffer
-    read-short : (k m : ℕ) → readHeads g n (pageWalk g jm o .heads) jm ≡ plan es (long m) → Overlong g n (pageWalk g jm o .heads) m
+    read-short : (k m : ℕ) → readHeads g n (pageWalk g jm o .heads) jm ≡ plan es (long m)
         → Finds g q jm n (fromPage g n old (suc k) o jm)
     unfolding onMet
-    read-short k m e h = record {
+    read-short k m e = record {
       events = es;
       out = short m;
       is = read-here k ∙ bind-last g jm (onMet (nextItem g n old true k (afterPage o))) e refl;
       steady = copies-steady K c;
-      result = isShort m refl o (S .old-in) (rw same-image h);
+      result = isShort m refl;
     }
 
     -- the first present item is in page o
@@ -200,7 +200,7 @@ finds {g} n old {q} (suc (suc k)) {jm} {o} {b} I l h F = by (heads-read g n (pag
         → (0 < b → (state g jm (turn g o 1) ≡ Open → ⊥) → presentIn g jm o ≡ []
         → Finds g q (imageBy g (erase o) jm) n (fromPage g n old k (turn g o 1) (imageBy g (erase o) jm)))
         → Finds g q jm n (fromPage g n old (suc (suc k)) o jm)
-    by (tooSmall m es e c s) A rec = read-short I F n q l es c (suc k) m e s
+    by (tooSmall m es e c) A rec = read-short I F n q l es c (suc k) m e
     by (gotIt h₁ es e c pre post hs ip ph) A rec = found-here I F n q l es c (suc k) h₁ e pre post hs ip ph
     by (allPassed es e c p) (stops s r) rec = stop-here I F n q l es c k e p s r
     by (allPassed es e c p) (leads s z ne) rec = go-on I F n q l es c k e p s (rec z ne p)

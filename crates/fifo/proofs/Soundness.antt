@@ -13,9 +13,9 @@ use Rattle.paper.specs.declared.PageState.the-variants.{Open, PartialOpen, Clos
 use Rattle.paper.specs.Chip.{Event, Plan, plan, Try, gives, settled}
 use Rattle.paper.specs.Pages.{allPages, state}
 use Rattle.paper.specs.Refusals.{Answer, done, number, refused}
-use Rattle.paper.specs.Calls.{tooBig, spotFor, shownBy, Outcome, counted, spaceBy, spaceOf, space, spaceLeft, eraseAll}
-use Rattle.paper.specs.Fifo.{Call, pushes, peeks, pops, fits, spaces, erasesAll, planOf}
+use Rattle.paper.specs.Calls.{tooBig, spotFor, shownBy, Outcome, counted, spaceBy, spaceOf, space, spaceLeft, eraseAll, Call, pushes, peeks, pops, fits, spaces, erasesAll, planOf}
 use Rattle.laws.proofs.Ring.{pages-only}
+use Rattle.paper.specs.Fifo.{whole, Counted}
 use Rattle.fifo.specs.Claims.{Sound, AlwaysSound}
 use Rattle.fifo.proofs.Plans.{bind-last, no-repair}
 use Rattle.fifo.proofs.RingShape.{sound}
@@ -34,14 +34,14 @@ data Pushed (p : Plan Answer) : Type 0 where
   made : (es : List Event) → p ≡ plan es done → Pushed p
 
 module _ {g : Geometry} {im : List ℕ} {o b : ℕ} (I : Inv g im o b) where
-  pushed : (slip : List ℕ) → Pushed (planOf g im (pushes slip))
+  pushed : (slip : List ℕ) → Pushed (planOf g im (pushes slip false))
   pushed slip = by (tooBig g (length slip)) refl
     where
-      on : tooBig g (length slip) ≡ false → Spotted g im (length slip) (spotFor g im (length slip) false) → Pushed (planOf g im (pushes slip))
+      on : tooBig g (length slip) ≡ false → Spotted g im (length slip) (spotFor g im (length slip) false) → Pushed (planOf g im (pushes slip false))
       on t (isFull q F) = noRoomLeft (plan-full g im slip t q)
       on t (isAt es a q R N) = made _ (plan-at g im slip t es a q)
 
-      by : (t : Bool) → tooBig g (length slip) ≡ t → Pushed (planOf g im (pushes slip))
+      by : (t : Bool) → tooBig g (length slip) ≡ t → Pushed (planOf g im (pushes slip false))
       by true t = tooLong (plan-big g im slip t)
       by false t = on t (spotted-for I (length slip) (small-enough g (length slip) t .1))
 
@@ -59,7 +59,7 @@ module _ {g : Geometry} {im : List ℕ} {o b : ℕ} (I : Inv g im o b) where
 
   shown-not : (n : ℕ) {q : List (List ℕ)} {es : List Event} {out : Outcome} → Result g q im n es out → shownBy out ≡ refused refusal.Corrupted → ⊥
   shown-not n (isNothing a x) e = let f = ap shownBy a in let z : _≡_ {A = ℕ} 0 1 = cc in omega arith
-  shown-not n (isShort k a p hp x) e = let f = ap shownBy a in let z : _≡_ {A = ℕ} 0 1 = cc in omega arith
+  shown-not n (isShort k a) e = let f = ap shownBy a in let z : _≡_ {A = ℕ} 0 1 = cc in omega arith
   shown-not n (isThis h a x) e = let f = ap shownBy a in let z : _≡_ {A = ℕ} 0 1 = cc in omega arith
 
   -- ---- space_left
@@ -90,21 +90,22 @@ module _ {g : Geometry} {im : List ℕ} {o b : ℕ} (I : Inv g im o b) where
       let e : plan [] (space g im) ≡ plan [] (gives (number (r .0))) = ap (λ (t : Try Unit Answer). plan [] t) (space-is (r .0) (r .1)) in
       (r .0, bind-last g im (λ t im₁. plan [] (settled (refused refusal.Corrupted) t)) (no-repair g im (λ u im₁. plan [] (space g im₁)) tt e) refl)
 
-  answers : (c : Call) → (c ≡ fits → ⊥) → planOf g im c .answer ≡ refused refusal.Corrupted → ⊥
+  answers : (c : Call) → Counted c whole → (c ≡ fits → ⊥) → planOf g im c .answer ≡ refused refusal.Corrupted → ⊥
   unfolding planOf eraseAll
-  answers (pushes slip) n e = not-corrupted (planOf g im (pushes slip)) (pushed slip) e
-  answers (peeks buf) n e = shown-not (length buf) (sought I buf .result) (sym (ap (λ (x : Plan Answer). x .answer) (peek-plan I buf)) ∙ e)
-  answers (pops buf) n e = shown-not (length buf) (sought I buf .result) (sym (ap (λ (x : Plan Answer). x .answer) (pop-plan I buf)) ∙ e)
-  answers fits n e = n refl
-  answers spaces n e = let f = ap (λ (x : Plan Answer). x .answer) (space-counts .1) in let z : _≡_ {A = ℕ} 0 1 = cc in omega arith
-  answers erasesAll n e = let z : _≡_ {A = ℕ} 0 1 = cc in omega arith
+  answers (pushes slip true) t n e = t
+  answers (pushes slip false) t n e = not-corrupted (planOf g im (pushes slip false)) (pushed slip) e
+  answers (peeks buf) t n e = shown-not (length buf) (sought I buf .result) (sym (ap (λ (x : Plan Answer). x .answer) (peek-plan I buf)) ∙ e)
+  answers (pops buf) t n e = shown-not (length buf) (sought I buf .result) (sym (ap (λ (x : Plan Answer). x .answer) (pop-plan I buf)) ∙ e)
+  answers fits t n e = n refl
+  answers spaces t n e = let f = ap (λ (x : Plan Answer). x .answer) (space-counts .1) in let z : _≡_ {A = ℕ} 0 1 = cc in omega arith
+  answers erasesAll t n e = let z : _≡_ {A = ℕ} 0 1 = cc in omega arith
 
   sound-image : Sound g im
   sound-image = record {
     pages = sound g im o b (I .shape);
     repaired = no-repairs I;
     answers = answers;
-    refusedPush = λ slip r e. no-events (planOf g im (pushes slip)) (pushed slip) r e;
+    refusedPush = λ slip r e. no-events (planOf g im (pushes slip false)) (pushed slip) r e;
     counts = (ap (λ (x : Plan Answer). x .events) (fit-plan I), ap (λ (x : Plan Answer). x .events) (space-plan I));
   }
 

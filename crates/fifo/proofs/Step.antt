@@ -7,8 +7,9 @@ use Rattle.paper.specs.declared.Geometry.{Geometry}
 use Rattle.paper.specs.Chip.{Event, imageAfter, bufferAfter, before, plan}
 use Rattle.paper.specs.Scan.{Head, pageWalk}
 use Rattle.paper.specs.Refusals.{Answer}
+use Rattle.paper.specs.Calls.{Call, planOf}
 use Rattle.paper.specs.Waiting.{waiting}
-use Rattle.paper.specs.Fifo.{Call, Power, whole, cutAfter, planOf, eventsOf, imageNext, headerAt, Plain, Behaves, bufferOf, listAfter}
+use Rattle.paper.specs.Fifo.{Power, whole, cutAfter, eventsOf, imageNext, headerAt, Plain, Behaves, bufferOf, listAfter}
 use Rattle.fifo.proofs.Events.{Avoids}
 use Rattle.fifo.proofs.Invariant.{Inv}
 use Rattle.fifo.proofs.Steady.{Steady, steady-before, steady-after, was-there}

@@ -1,5 +1,6 @@
 -- What holds of every image of a history, beside demand 3. Assumes nothing.
 use mathlib.Core.Path.{_≡_}
+use mathlib.Core.Bool.{false}
 use mathlib.Core.List.{List, []}
 use Prim.Native.Nat.{ℕ, _≤_, _<_}
 use Rattle.paper.specs.declared.Geometry.{Geometry}
@@ -8,18 +9,19 @@ use Rattle.paper.specs.declared.Refusal.the-variants as refusal
 use Rattle.paper.specs.declared.PageState.the-variants.{Corrupted}
 use Rattle.paper.specs.Pages.{state, repair}
 use Rattle.paper.specs.Refusals.{refused}
+use Rattle.paper.specs.Calls.{Call, pushes, fits, spaces, planOf}
 use Rattle.paper.specs.Waiting.{waiting}
-use Rattle.paper.specs.Fifo.{Call, pushes, fits, spaces, cutAfter, planOf, imageNext, listAfter, Ghost, NoneAgain, NoFalse, Fair, Reached}
+use Rattle.paper.specs.Fifo.{whole, cutAfter, Counted, imageNext, listAfter, Ghost, NoneAgain, NoFalse, Fair, Reached}
 
 pub record Sound (g : Geometry) (im : List ℕ) : Type 0 where
   -- no page is Corrupted
   pub pages : (p : ℕ) → p < g .pages → state g im p ≡ Corrupted → ⊥
   -- so there is nothing to repair
   pub repaired : repair g im ≡ []
-  -- push, peek, pop, space_left and erase_all do not answer Corrupted; find_max_fit does on a single page that is in use
-  pub answers : (c : Call) → (c ≡ fits → ⊥) → planOf g im c .answer ≡ refused refusal.Corrupted → ⊥
+  -- of the calls that a history counts only find_max_fit answers Corrupted, on a single page that is in use
+  pub answers : (c : Call) → Counted c whole → (c ≡ fits → ⊥) → planOf g im c .answer ≡ refused refusal.Corrupted → ⊥
   -- a push that is refused makes no store: of row 3, "repairs and the current page's start mark may be new", nothing is new
-  pub refusedPush : (slip : List ℕ) (r : Refusal) → planOf g im (pushes slip) .answer ≡ refused r → planOf g im (pushes slip) .events ≡ []
+  pub refusedPush : (slip : List ℕ) (r : Refusal) → planOf g im (pushes slip false) .answer ≡ refused r → planOf g im (pushes slip false) .events ≡ []
   -- find_max_fit and space_left make no store
   pub counts : (planOf g im fits .events ≡ []) × (planOf g im spaces .events ≡ [])
 

@@ -1,14 +1,16 @@
 -- Both premises of demand 3 are needed: a history without each of them, in which the list is not what the calls say. And they can be met:
 -- a history with cuts in which all that is assumed holds. Assumes nothing.
 use mathlib.Core.Path.{_≡_}
+use mathlib.Core.Bool.{false}
 use mathlib.Core.List.{List, [], _∷_}
 use Prim.Native.Nat.{ℕ}
 use lib.ListN.{take, replicate}
 use Rattle.paper.specs.declared.Geometry.{Geometry}
 use Rattle.paper.specs.declared.Checked.the-variants.{Accepted}
 use Rattle.paper.specs.Refusals.{check, done}
+use Rattle.paper.specs.Calls.{Call, pushes, pops, planOf}
 use Rattle.paper.specs.Waiting.{waiting}
-use Rattle.paper.specs.Fifo.{Call, pushes, pops, Power, whole, cutAfter, planOf, imageNext, headerAt, Ghost, ghostNext, Fair, Erased, Reached}
+use Rattle.paper.specs.Fifo.{Power, whole, cutAfter, imageNext, headerAt, Ghost, ghostNext, Fair, Erased, Reached}
 
 -- one erased page of 32 bytes, with words of 4
 unfoldable pub sheet : Geometry
@@ -19,7 +21,7 @@ blankSheet = replicate 32 0xff
 
 -- a push of nothing, cut when the mark and half the header are stored
 unfoldable pub halfHeader : List ℕ
-halfHeader = imageNext sheet blankSheet (pushes []) (cutAfter 2)
+halfHeader = imageNext sheet blankSheet (pushes [] false) (cutAfter 2)
 
 -- a slip whose header makes a header of the half that stands before it
 unfoldable pub unlucky : List ℕ
@@ -33,10 +35,10 @@ pub record PremisesNeeded : Type 0 where
   -- the page's shape is one that the check accepts
   pub accepted : check 32 (record { start = 0; end = 32; page = 32; word = 4 }) ≡ Accepted sheet
   -- the push is done, and its slip is not on the list: the scan accepts an address that it refused before
-  pub said : planOf sheet halfHeader (pushes unlucky) .answer ≡ done
-  pub lost : waiting sheet (imageNext sheet halfHeader (pushes unlucky) whole) ≡ []
+  pub said : planOf sheet halfHeader (pushes unlucky false) .answer ≡ done
+  pub lost : waiting sheet (imageNext sheet halfHeader (pushes unlucky false) whole) ≡ []
   -- the push is cut, and another slip than its own is on the list: a cut payload passes
-  pub altered : waiting sheet (imageNext sheet blankSheet (pushes ambiguous) (cutAfter 4)) ≡ (0x64 ∷ 0x04 ∷ 0x00 ∷ 0x00 ∷ 0xff ∷ 0xff ∷ 0xff ∷ 0xff ∷ []) ∷ []
+  pub altered : waiting sheet (imageNext sheet blankSheet (pushes ambiguous false) (cutAfter 4)) ≡ (0x64 ∷ 0x04 ∷ 0x00 ∷ 0x00 ∷ 0xff ∷ 0xff ∷ 0xff ∷ 0xff ∷ []) ∷ []
 
 -- ---- a history with cuts that meets them
 
@@ -79,10 +81,10 @@ noGhost = record { begun = []; refusedBefore = [] }
 -- between its two stores
 unfoldable pub mishaps : List Step
 mishaps =
-    record { call = pushes (1 ∷ []); power = whole } ∷
-    record { call = pushes []; power = cutAfter 1 } ∷
-    record { call = pushes (2 ∷ []); power = cutAfter 2 } ∷
-    record { call = pushes (3 ∷ []); power = whole } ∷
+    record { call = pushes (1 ∷ []) false; power = whole } ∷
+    record { call = pushes [] false; power = cutAfter 1 } ∷
+    record { call = pushes (2 ∷ []) false; power = cutAfter 2 } ∷
+    record { call = pushes (3 ∷ []) false; power = whole } ∷
     record { call = pops (replicate 4 0); power = cutAfter 1 } ∷ []
 
 pub record PremisesMet : Type 0 where
@@ -98,4 +100,4 @@ pub record PremisesMet : Type 0 where
       ≡ ((1 ∷ []) ∷ []) ∷ ((1 ∷ []) ∷ []) ∷ ((1 ∷ []) ∷ []) ∷ ((1 ∷ []) ∷ (3 ∷ []) ∷ []) ∷ ((3 ∷ []) ∷ []) ∷ []
   -- neither premise is idle: the scan refused address 16 in three images, and a push was cut with its header whole, at address 20
   pub ghosts : ghostOf strip blankStrip noGhost mishaps ≡ record { begun = 32 ∷ 20 ∷ 16 ∷ 4 ∷ []; refusedBefore = 16 ∷ 16 ∷ 16 ∷ [] }
-  pub torn : headerAt strip (imageOf strip blankStrip (take 2 mishaps)) (pushes (2 ∷ [])) (cutAfter 2) 1 ≡ 20 ∷ []
+  pub torn : headerAt strip (imageOf strip blankStrip (take 2 mishaps)) (pushes (2 ∷ []) false) (cutAfter 2) 1 ≡ 20 ∷ []

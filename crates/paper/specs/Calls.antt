@@ -243,23 +243,24 @@ planned (Refused r) own = plan [] (refused r)
 unfoldable pub call : ℕ → Shape → (Geometry → Plan Answer) → Plan Answer
 call n s own = planned (check n s) own
 
--- the six calls, each with what it is given: a slip and whether overwriting is on; a buffer's size
-pub data Request : Type 0 where
-  pushing : List ℕ → Bool → Request
-  peeking : ℕ → Request
-  popping : ℕ → Request
-  fitting : Request
-  measuring : Request
-  erasing : Request
+-- the six calls, each with what it is given: a slip and whether overwriting is on; a lent buffer
+pub data Call : Type 0 where
+  pushes : List ℕ → Bool → Call
+  peeks : List ℕ → Call
+  pops : List ℕ → Call
+  fits : Call
+  spaces : Call
+  erasesAll : Call
 
-unfoldable pub planFor : Geometry → List ℕ → Request → Plan Answer
-planFor g im (pushing slip over) = push g im slip over
-planFor g im (peeking n) = peek g im n
-planFor g im (popping n) = pop g im n
-planFor g im fitting = findMaxFit g im
-planFor g im measuring = spaceLeft g im
-planFor g im erasing = eraseAll g
+-- what a call does on a geometry that the check accepted, and what it answers
+unfoldable pub planOf : Geometry → List ℕ → Call → Plan Answer
+planOf g im (pushes slip over) = push g im slip over
+planOf g im (peeks buf) = peek g im (length buf)
+planOf g im (pops buf) = pop g im (length buf)
+planOf g im fits = findMaxFit g im
+planOf g im spaces = spaceLeft g im
+planOf g im erasesAll = eraseAll g
 
--- a public call: any request, on any shape and image
-unfoldable pub requested : Shape → List ℕ → Request → Plan Answer
-requested s im c = call (length im) s (λ g. planFor g im c)
+-- a public call: any call, on any shape and image
+unfoldable pub requested : Shape → List ℕ → Call → Plan Answer
+requested s im c = call (length im) s (λ g. planOf g im c)

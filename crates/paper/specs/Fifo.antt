@@ -13,28 +13,11 @@ use Rattle.paper.specs.Chip.{Geometry, roundUp, headerSize, wordsFor, pa
 use Rattle.paper.specs.Scan.{Head, pageWalk, serves, live, anyLive}
 use Rattle.paper.specs.Pages.{Closed, state, next, allPages, youngest}
 use Rattle.paper.specs.Refusals.{Accepted, check, Answer, done, shown, number, none, empty, refused}
-use Rattle.paper.specs.Calls.{Spot, full, at, tooBig, spotFor, push, peek, pop, findMaxFit, spaceLeft, eraseAll}
+use Rattle.paper.specs.Calls.{Spot, full, at, tooBig, spotFor, Call, pushes, peeks, pops, fits, spaces, erasesAll, planOf}
 use Rattle.paper.specs.Waiting.{waiting}
+use Rattle.paper.specs.Ways.{Each, Passed, TooLong, Seen, Way}
 
 -- ---- the calls of a history
-
--- "push without overwriting, peek and pop", the last two with the buffer that they are lent; "find_max_fit and space_left may stand in
--- the history"; erase_all
-pub data Call : Type 0 where
-  pushes : List ℕ → Call
-  peeks : List ℕ → Call
-  pops : List ℕ → Call
-  fits : Call
-  spaces : Call
-  erasesAll : Call
-
-unfoldable pub planOf : Geometry → List ℕ → Call → Plan Answer
-planOf g im (pushes slip) = push g im slip false
-planOf g im (peeks buf) = peek g im (length buf)
-planOf g im (pops buf) = pop g im (length buf)
-planOf g im fits = findMaxFit g im
-planOf g im spaces = spaceLeft g im
-planOf g im erasesAll = eraseAll g
 
 -- "each whole or cut after any number of stores"
 pub data Power : Type 0 where
@@ -52,9 +35,11 @@ eventsOf g im c w = performed w (planOf g im c .events)
 unfoldable pub imageNext : Geometry → List ℕ → Call → Power → List ℕ
 imageNext g im c w = imageAfter g (eventsOf g im c w) im
 
--- "A whole erase_all (page order) empties the list; a cut one ends the account."
+-- the calls that a history counts: "push without overwriting, peek and pop"; "find_max_fit and space_left may stand in the history"; "A
+-- whole erase_all (page order) empties the list; a cut one ends the account."
 abbrev pub Counted : Call → Power → Type 0
-Counted (pushes slip) w = Unit {0}
+Counted (pushes slip false) w = Unit {0}
+Counted (pushes slip true) w = ⊥
 Counted (peeks buf) w = Unit {0}
 Counted (pops buf) w = Unit {0}
 Counted fits w = Unit {0}
@@ -64,7 +49,7 @@ Counted erasesAll (cutAfter k) = ⊥
 
 -- the slip that a call brings, and the buffer that it is lent; none: the empty list
 abbrev pub slipOf : Call → List ℕ
-slipOf (pushes slip) = slip
+slipOf (pushes slip over) = slip
 slipOf (peeks buf) = []
 slipOf (pops buf) = []
 slipOf fits = []
@@ -72,7 +57,7 @@ slipOf spaces = []
 slipOf erasesAll = []
 
 abbrev pub bufferOf : Call → List ℕ
-bufferOf (pushes slip) = []
+bufferOf (pushes slip over) = []
 bufferOf (peeks buf) = buf
 bufferOf (pops buf) = buf
 bufferOf fits = []
@@ -83,7 +68,7 @@ bufferOf erasesAll = []
 
 -- what a call does before a header, and where it then begins one
 unfoldable pub headerPlan : Geometry → List ℕ → Call → Plan (Try Unit Spot)
-headerPlan g im (pushes slip) = cond (tooBig g (length slip)) (plan [] (fails tt)) (spotFor g im (length slip) false)
+headerPlan g im (pushes slip over) = cond (tooBig g (length slip)) (plan [] (fails tt)) (spotFor g im (length slip) over)
 headerPlan g im (peeks buf) = plan [] (fails tt)
 headerPlan g im (pops buf) = plan [] (fails tt)
 headerPlan g im fits = plan [] (fails tt)
@@ -195,30 +180,25 @@ pub record Full (g : Geometry) (im : List ℕ) (n : ℕ) : Type 0 where
   pub again : (state g im (next g page) ≡ Closed) ⊎ (next g page ≡ page)
   pub live : anyLive (pageWalk g im (next g page) .heads) ≡ true
 
--- row 4: "the first live header that doesn't fit the buffer is met; n is its rounded length"; m is the buffer's size
-pub record TooLong (g : Geometry) (im : List ℕ) (m n : ℕ) : Type 0 where
-  pub page : ℕ
-  pub inside : page < g .pages
-  pub head : Head
-  pub there : List·Memᴰ head (pageWalk g im page .heads)
-  pub alive : live head ≡ true
-  pub rounded : n ≡ roundUp (g .word) (head .len)
-  pub over : m < n
-
 -- a whole call's answer, and the list r that it leaves of the list q, "as a plain first-in-first-out list does, apart from the refusals
--- laid down"; buf is the buffer afterwards
+-- laid down"; buf is the buffer afterwards. Peek and pop say what they met on their way: nothing but what they go past, or first a live
+-- header too long for the buffer (row 4), or first the item that they show
 pub data Plain (g : Geometry) (im : List ℕ) : Call → Answer → List ℕ → List (List ℕ) → List (List ℕ) → Type 0 where
   added : {s buf : List ℕ} {q r : List (List ℕ)} → tooBig g (length s) ≡ false → (Full g im (length s) → ⊥) → r ≡ q ++ (s ∷ [])
-      → Plain g im (pushes s) done buf q r
-  big : {s buf : List ℕ} {q : List (List ℕ)} → tooBig g (length s) ≡ true → Plain g im (pushes s) (refused refusal.ItemTooBig) buf q q
+      → Plain g im (pushes s false) done buf q r
+  big : {s buf : List ℕ} {q : List (List ℕ)} → tooBig g (length s) ≡ true → Plain g im (pushes s false) (refused refusal.ItemTooBig) buf q q
   noRoom : {s buf : List ℕ} {q : List (List ℕ)} → tooBig g (length s) ≡ false → Full g im (length s)
-      → Plain g im (pushes s) (refused refusal.FullStorage) buf q q
-  showsNone : {b buf : List ℕ} → Plain g im (peeks b) empty buf [] []
-  showsNot : {n : ℕ} {b buf : List ℕ} {q : List (List ℕ)} → TooLong g im (length b) n → Plain g im (peeks b) (refused (refusal.BufferTooSmall n)) buf q q
-  shows : {b buf s : List ℕ} {q : List (List ℕ)} → take (length s) buf ≡ s → Plain g im (peeks b) (shown (length s)) buf (s ∷ q) (s ∷ q)
-  takesNone : {b buf : List ℕ} → Plain g im (pops b) empty buf [] []
-  takesNot : {n : ℕ} {b buf : List ℕ} {q : List (List ℕ)} → TooLong g im (length b) n → Plain g im (pops b) (refused (refusal.BufferTooSmall n)) buf q q
-  takes : {b buf s : List ℕ} {q : List (List ℕ)} → take (length s) buf ≡ s → Plain g im (pops b) (shown (length s)) buf (s ∷ q) q
+      → Plain g im (pushes s false) (refused refusal.FullStorage) buf q q
+  showsNone : {b buf : List ℕ} {hs : List Head} → Way g im hs → Each (Passed g (length b)) hs → Plain g im (peeks b) empty buf [] []
+  showsNot : {n : ℕ} {b buf : List ℕ} {q : List (List ℕ)} {hs : List Head} → Way g im hs → TooLong g (length b) hs n
+      → Plain g im (peeks b) (refused (refusal.BufferTooSmall n)) buf q q
+  shows : {b buf s : List ℕ} {q : List (List ℕ)} {hs : List Head} → Way g im hs → Seen g (length b) hs (length s) → take (length s) buf ≡ s
+      → Plain g im (peeks b) (shown (length s)) buf (s ∷ q) (s ∷ q)
+  takesNone : {b buf : List ℕ} {hs : List Head} → Way g im hs → Each (Passed g (length b)) hs → Plain g im (pops b) empty buf [] []
+  takesNot : {n : ℕ} {b buf : List ℕ} {q : List (List ℕ)} {hs : List Head} → Way g im hs → TooLong g (length b) hs n
+      → Plain g im (pops b) (refused (refusal.BufferTooSmall n)) buf q q
+  takes : {b buf s : List ℕ} {q : List (List ℕ)} {hs : List Head} → Way g im hs → Seen g (length b) hs (length s) → take (length s) buf ≡ s
+      → Plain g im (pops b) (shown (length s)) buf (s ∷ q) q
   fitted : {a : Answer} {buf : List ℕ} {q : List (List ℕ)} → Plain g im fits a buf q q
   measured : {a : Answer} {buf : List ℕ} {q : List (List ℕ)} → Plain g im spaces a buf q q
   cleared : {buf : List ℕ} {q : List (List ℕ)} → Plain g im erasesAll done buf q []
@@ -241,7 +221,7 @@ afterPop q empty = q
 afterPop q (refused r) = q
 
 abbrev pub listAfter : Call → Answer → List (List ℕ) → List (List ℕ)
-listAfter (pushes slip) a q = afterPush slip q a
+listAfter (pushes slip over) a q = afterPush slip q a
 listAfter (peeks buf) a q = q
 listAfter (pops buf) a q = afterPop q a
 listAfter fits a q = q

@@ -7,6 +7,7 @@ pub mod Pages
 pub mod Refusals
 pub mod Calls
 pub mod Waiting
+pub mod Ways
 pub mod Fifo
 pub mod Cases
 pub mod Examples

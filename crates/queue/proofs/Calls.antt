@@ -10,7 +10,7 @@ use Rattle.paper.specs.declared.Checked.{Checked}
 use Rattle.paper.specs.declared.Checked.the-variants.{Accepted, Refused}
 use Rattle.paper.specs.Chip.{plan}
 use Rattle.paper.specs.Refusals.{Answer, refused, geometryOf}
-use Rattle.paper.specs.Calls.{Request, call, planFor, requested}
+use Rattle.paper.specs.Calls.{Call, call, planOf, requested}
 use Rattle.laws.proofs.Accepted.{accepted-is}
 use Rattle.chip.specs.declared.Budget.{Budget}
 use Rattle.chip.specs.Within.{Checks}
@@ -20,12 +20,12 @@ use Rattle.chip.proofs.Limiting.{showed-under-done}
 use Rattle.queue.specs.Promises.{AnswersUnder, ShowsUnder}
 
 -- on the shape s, whose check answered k
-module _ (s : Shape) (im : List ℕ) (c : Request) {k : Checked} (h : Checks (length im) s k) where
+module _ (s : Shape) (im : List ℕ) (c : Call) {k : Checked} (h : Checks (length im) s k) where
   refused-is : (x : Refusal) → k ≡ Refused x → requested s im c ≡ plan [] (refused x)
   unfolding requested call
   refused-is x q = rw (sym (h .answer) ∙ q)
 
-  accepted-as : (g : Geometry) → k ≡ Accepted g → requested s im c ≡ planFor g im c
+  accepted-as : (g : Geometry) → k ≡ Accepted g → requested s im c ≡ planOf g im c
   unfolding requested call
   accepted-as g q = rw (sym (h .answer) ∙ q)
 
@@ -36,8 +36,8 @@ module _ (s : Shape) (im : List ℕ) (c : Request) {k : Checked} (h : Checks (le
   answers-refused x q b = shows-refused x q b [] .whole
 
   module _ {g : Geometry} {o : List ℕ} {x : Answer} (q : k ≡ Accepted g) (b : Budget) where
-    pub shows-accepted : {d e : List ℕ} → WholeShown g (under b (planFor g im c)) im o d e x → ShowsUnder b s c im o d e x
+    pub shows-accepted : {d e : List ℕ} → WholeShown g (under b (planOf g im c)) im o d e x → ShowsUnder b s c im o d e x
     shows-accepted v = rw (accepted-as g q, accepted-is (length im) s g (sym (h .answer) ∙ q)) v
 
-    pub answers-accepted : Whole g (under b (planFor g im c)) im o x → AnswersUnder b s c im o x
+    pub answers-accepted : Whole g (under b (planOf g im c)) im o x → AnswersUnder b s c im o x
     answers-accepted v = rw (accepted-as g q, accepted-is (length im) s g (sym (h .answer) ∙ q)) v

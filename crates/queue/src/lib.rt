@@ -3,7 +3,7 @@
 ghost use mathlib.Core.Path.{_≡_};
 ghost use lib.ListN.{length};
 ghost use Rattle.paper.specs.Refusals.{check, pushedAs, shownAs, fitAs, spaceAs, erasedAs};
-ghost use Rattle.paper.specs.Calls.{pushing, peeking, popping, fitting, measuring, erasing};
+ghost use Rattle.paper.specs.Calls.{pushes, peeks, pops, fits, spaces, erasesAll};
 ghost use Rattle.queue.specs.Promises.{Answers, Shows, AnswersWithin, ShowsWithin, AnswersUnder, ShowsUnder};
 use chip::Budget;
 use paper::Checked;
@@ -31,13 +31,13 @@ pub fn check_geometry(n: usize, s: Shape) -> Checked
 
 // `over`: whether a push may use the oldest page again though slips wait there.
 pub fn push(image: &mut [u8], s: Shape, slip: &[u8], over: bool) -> Pushed
-    ensures { λ r. ⌜ Answers s (pushing (now (slip .entry)) over) (now (image .entry)) (now (image .exit)) (pushedAs r) ⌝ }
+    ensures { λ r. ⌜ Answers s (pushes (now (slip .entry)) over) (now (image .entry)) (now (image .exit)) (pushedAs r) ⌝ }
 {
     push_under(image, UNLIMITED, s, slip, over)
 }
 
 pub fn push_limited(image: &mut [u8], s: Shape, slip: &[u8], over: bool, limit: usize) -> Pushed
-    ensures { λ r. ⌜ AnswersWithin limit s (pushing (now (slip .entry)) over) (now (image .entry)) (now (image .exit)) (pushedAs r) ⌝ }
+    ensures { λ r. ⌜ AnswersWithin limit s (pushes (now (slip .entry)) over) (now (image .entry)) (now (image .exit)) (pushedAs r) ⌝ }
 {
     let b = Budget {
         limited: true,
@@ -47,7 +47,7 @@ pub fn push_limited(image: &mut [u8], s: Shape, slip: &[u8], over: bool, limit: 
 }
 
 fn push_under(image: &mut [u8], b: Budget, s: Shape, slip: &[u8], over: bool) -> Pushed
-    ensures { λ r. ⌜ AnswersUnder b s (pushing (now (slip .entry)) over) (now (image .entry)) (now (image .exit)) (pushedAs r) ⌝ }
+    ensures { λ r. ⌜ AnswersUnder b s (pushes (now (slip .entry)) over) (now (image .entry)) (now (image .exit)) (pushedAs r) ⌝ }
 {
     let checked = chip::check_geometry(image.len(), s);
     match checked {
@@ -60,13 +60,13 @@ fn push_under(image: &mut [u8], b: Budget, s: Shape, slip: &[u8], over: bool) ->
 
 // Peek too may store: it repairs, and erases finished pages.
 pub fn peek(image: &mut [u8], buffer: &mut [u8], s: Shape) -> Shown
-    ensures { λ r. ⌜ Shows s (peeking (length (now (buffer .entry)))) (now (image .entry)) (now (image .exit)) (now (buffer .entry)) (now (buffer .exit)) (shownAs r) ⌝ }
+    ensures { λ r. ⌜ Shows s (peeks (now (buffer .entry))) (now (image .entry)) (now (image .exit)) (now (buffer .entry)) (now (buffer .exit)) (shownAs r) ⌝ }
 {
     peek_under(image, buffer, UNLIMITED, s)
 }
 
 pub fn peek_limited(image: &mut [u8], buffer: &mut [u8], s: Shape, limit: usize) -> Shown
-    ensures { λ r. ⌜ ShowsWithin limit s (peeking (length (now (buffer .entry)))) (now (image .entry)) (now (image .exit)) (now (buffer .entry)) (now (buffer .exit)) (shownAs r) ⌝ }
+    ensures { λ r. ⌜ ShowsWithin limit s (peeks (now (buffer .entry))) (now (image .entry)) (now (image .exit)) (now (buffer .entry)) (now (buffer .exit)) (shownAs r) ⌝ }
 {
     let b = Budget {
         limited: true,
@@ -76,7 +76,7 @@ pub fn peek_limited(image: &mut [u8], buffer: &mut [u8], s: Shape, limit: usize)
 }
 
 fn peek_under(image: &mut [u8], buffer: &mut [u8], b: Budget, s: Shape) -> Shown
-    ensures { λ r. ⌜ ShowsUnder b s (peeking (length (now (buffer .entry)))) (now (image .entry)) (now (image .exit)) (now (buffer .entry)) (now (buffer .exit)) (shownAs r) ⌝ }
+    ensures { λ r. ⌜ ShowsUnder b s (peeks (now (buffer .entry))) (now (image .entry)) (now (image .exit)) (now (buffer .entry)) (now (buffer .exit)) (shownAs r) ⌝ }
 {
     let checked = chip::check_geometry(image.len(), s);
     match checked {
@@ -88,13 +88,13 @@ fn peek_under(image: &mut [u8], buffer: &mut [u8], b: Budget, s: Shape) -> Shown
 // ---- pop
 
 pub fn pop(image: &mut [u8], buffer: &mut [u8], s: Shape) -> Shown
-    ensures { λ r. ⌜ Shows s (popping (length (now (buffer .entry)))) (now (image .entry)) (now (image .exit)) (now (buffer .entry)) (now (buffer .exit)) (shownAs r) ⌝ }
+    ensures { λ r. ⌜ Shows s (pops (now (buffer .entry))) (now (image .entry)) (now (image .exit)) (now (buffer .entry)) (now (buffer .exit)) (shownAs r) ⌝ }
 {
     pop_under(image, buffer, UNLIMITED, s)
 }
 
 pub fn pop_limited(image: &mut [u8], buffer: &mut [u8], s: Shape, limit: usize) -> Shown
-    ensures { λ r. ⌜ ShowsWithin limit s (popping (length (now (buffer .entry)))) (now (image .entry)) (now (image .exit)) (now (buffer .entry)) (now (buffer .exit)) (shownAs r) ⌝ }
+    ensures { λ r. ⌜ ShowsWithin limit s (pops (now (buffer .entry))) (now (image .entry)) (now (image .exit)) (now (buffer .entry)) (now (buffer .exit)) (shownAs r) ⌝ }
 {
     let b = Budget {
         limited: true,
@@ -104,7 +104,7 @@ pub fn pop_limited(image: &mut [u8], buffer: &mut [u8], s: Shape, limit: usize) 
 }
 
 fn pop_under(image: &mut [u8], buffer: &mut [u8], b: Budget, s: Shape) -> Shown
-    ensures { λ r. ⌜ ShowsUnder b s (popping (length (now (buffer .entry)))) (now (image .entry)) (now (image .exit)) (now (buffer .entry)) (now (buffer .exit)) (shownAs r) ⌝ }
+    ensures { λ r. ⌜ ShowsUnder b s (pops (now (buffer .entry))) (now (image .entry)) (now (image .exit)) (now (buffer .entry)) (now (buffer .exit)) (shownAs r) ⌝ }
 {
     let checked = chip::check_geometry(image.len(), s);
     match checked {
@@ -116,13 +116,13 @@ fn pop_under(image: &mut [u8], buffer: &mut [u8], b: Budget, s: Shape) -> Shown
 // ---- find_max_fit
 
 pub fn find_max_fit(image: &mut [u8], s: Shape) -> Fit
-    ensures { λ r. ⌜ Answers s fitting (now (image .entry)) (now (image .exit)) (fitAs r) ⌝ }
+    ensures { λ r. ⌜ Answers s fits (now (image .entry)) (now (image .exit)) (fitAs r) ⌝ }
 {
     find_max_fit_under(image, UNLIMITED, s)
 }
 
 pub fn find_max_fit_limited(image: &mut [u8], s: Shape, limit: usize) -> Fit
-    ensures { λ r. ⌜ AnswersWithin limit s fitting (now (image .entry)) (now (image .exit)) (fitAs r) ⌝ }
+    ensures { λ r. ⌜ AnswersWithin limit s fits (now (image .entry)) (now (image .exit)) (fitAs r) ⌝ }
 {
     let b = Budget {
         limited: true,
@@ -132,7 +132,7 @@ pub fn find_max_fit_limited(image: &mut [u8], s: Shape, limit: usize) -> Fit
 }
 
 fn find_max_fit_under(image: &mut [u8], b: Budget, s: Shape) -> Fit
-    ensures { λ r. ⌜ AnswersUnder b s fitting (now (image .entry)) (now (image .exit)) (fitAs r) ⌝ }
+    ensures { λ r. ⌜ AnswersUnder b s fits (now (image .entry)) (now (image .exit)) (fitAs r) ⌝ }
 {
     let checked = chip::check_geometry(image.len(), s);
     match checked {
@@ -144,13 +144,13 @@ fn find_max_fit_under(image: &mut [u8], b: Budget, s: Shape) -> Fit
 // ---- space_left
 
 pub fn space_left(image: &mut [u8], s: Shape) -> Space
-    ensures { λ r. ⌜ Answers s measuring (now (image .entry)) (now (image .exit)) (spaceAs r) ⌝ }
+    ensures { λ r. ⌜ Answers s spaces (now (image .entry)) (now (image .exit)) (spaceAs r) ⌝ }
 {
     space_left_under(image, UNLIMITED, s)
 }
 
 pub fn space_left_limited(image: &mut [u8], s: Shape, limit: usize) -> Space
-    ensures { λ r. ⌜ AnswersWithin limit s measuring (now (image .entry)) (now (image .exit)) (spaceAs r) ⌝ }
+    ensures { λ r. ⌜ AnswersWithin limit s spaces (now (image .entry)) (now (image .exit)) (spaceAs r) ⌝ }
 {
     let b = Budget {
         limited: true,
@@ -160,7 +160,7 @@ pub fn space_left_limited(image: &mut [u8], s: Shape, limit: usize) -> Space
 }
 
 fn space_left_under(image: &mut [u8], b: Budget, s: Shape) -> Space
-    ensures { λ r. ⌜ AnswersUnder b s measuring (now (image .entry)) (now (image .exit)) (spaceAs r) ⌝ }
+    ensures { λ r. ⌜ AnswersUnder b s spaces (now (image .entry)) (now (image .exit)) (spaceAs r) ⌝ }
 {
     let checked = chip::check_geometry(image.len(), s);
     match checked {
@@ -172,13 +172,13 @@ fn space_left_under(image: &mut [u8], b: Budget, s: Shape) -> Space
 // ---- erase_all
 
 pub fn erase_all(image: &mut [u8], s: Shape) -> Erased
-    ensures { λ r. ⌜ Answers s erasing (now (image .entry)) (now (image .exit)) (erasedAs r) ⌝ }
+    ensures { λ r. ⌜ Answers s erasesAll (now (image .entry)) (now (image .exit)) (erasedAs r) ⌝ }
 {
     erase_all_under(image, UNLIMITED, s)
 }
 
 pub fn erase_all_limited(image: &mut [u8], s: Shape, limit: usize) -> Erased
-    ensures { λ r. ⌜ AnswersWithin limit s erasing (now (image .entry)) (now (image .exit)) (erasedAs r) ⌝ }
+    ensures { λ r. ⌜ AnswersWithin limit s erasesAll (now (image .entry)) (now (image .exit)) (erasedAs r) ⌝ }
 {
     let b = Budget {
         limited: true,
@@ -188,7 +188,7 @@ pub fn erase_all_limited(image: &mut [u8], s: Shape, limit: usize) -> Erased
 }
 
 fn erase_all_under(image: &mut [u8], b: Budget, s: Shape) -> Erased
-    ensures { λ r. ⌜ AnswersUnder b s erasing (now (image .entry)) (now (image .exit)) (erasedAs r) ⌝ }
+    ensures { λ r. ⌜ AnswersUnder b s erasesAll (now (image .entry)) (now (image .exit)) (erasedAs r) ⌝ }
 {
     let checked = chip::check_geometry(image.len(), s);
     match checked {

@@ -1,6 +1,6 @@
 -- `queue::find_max_fit_under` meets its contract: refused with its shape, or what the accepted call promises. Assumes nothing.
 use borrow.Author.Needs.{needs}
-use Rattle.paper.specs.Calls.{planFor, fitting}
+use Rattle.paper.specs.Calls.{planOf, fits}
 use Rattle.queue.proofs.Calls.{answers-refused, answers-accepted}
 use Rattle.queue.proofs.find_max_fit_under.Statement.{statement}
 use Rattle.queue.proofs.find_max_fit_under.Tie as tie
@@ -18,14 +18,14 @@ find-max-fit-requires : tie.Need-find-max-fit-requires
 find-max-fit-requires c κs = c .before .before .before .before .check-geometry .ensures .within _ (c .before .before .checked2 .given .1)
 
 returns : tie.Need-returns
-returns c = answers-refused (c .before .before .before .before .before .args .s) (c .before .before .before .before .before .args .image .now) fitting (c .before .before .before .check-geometry .ensures) _ (c .before .checked .given .1) (c .before .before .before .before .before .args .b)
+returns c = answers-refused (c .before .before .before .before .before .args .s) (c .before .before .before .before .before .args .image .now) fits (c .before .before .before .check-geometry .ensures) _ (c .before .checked .given .1) (c .before .before .before .before .before .args .b)
 
 same-length : tie.Need-same-length
 same-length c = search needs
 
 returns-2 : tie.Need-returns-2
-unfolding planFor
-returns-2 c = answers-accepted (c .before .before .before .before .before .before .before .before .before .args .s) (c .before .before .before .before .before .before .before .before .before .args .image .now) fitting (c .before .before .before .before .before .before .before .check-geometry .ensures) (c .before .before .before .before .before .checked2 .given .1) (c .before .before .before .before .before .before .before .before .before .args .b) (c .before .before .find-max-fit .ensures)
+unfolding planOf
+returns-2 c = answers-accepted (c .before .before .before .before .before .before .before .before .before .args .s) (c .before .before .before .before .before .before .before .before .before .args .image .now) fits (c .before .before .before .before .before .before .before .check-geometry .ensures) (c .before .before .before .before .before .checked2 .given .1) (c .before .before .before .before .before .before .before .before .before .args .b) (c .before .before .find-max-fit .ensures)
 
 pub find-max-fit-under-spec : {M : Type 1} → statement M
 find-max-fit-under-spec =

@@ -1,0 +1,3 @@
+pub mod Contracts
+pub mod Demand1
+pub mod Demand3
