@@ -171,8 +171,10 @@ module _ {g : Geometry} {im : List ℕ} {o b : ℕ} (I : Inv g im o b) (buf : Li
   pop-step gh w Fr = by (sought .result)
     where
       by : Result g (waiting g im) im (length buf) E (sought .out) → Step g im (pops buf) w
-      by (isNothing a z) = steady-step im (pops buf) (idle-plan empty (ap (popped g) a) (ap shownBy a)) (sought .steady) (rw z (takesNone the-way (pop-rows .none the-way .0 (pop-says a)))) w
+      by (isNothing a z) = steady-step im (pops buf) (idle-plan empty (ap (popped g) a) (ap shownBy a)) (sought .steady)
+          (rw z (takesNone the-way (pop-rows .none the-way .0 (pop-says a)))) w
       by (isShort k a) =
           let no : Answer = refused (refusal.BufferTooSmall k) in
-          steady-step im (pops buf) (idle-plan no (ap (popped g) a) (ap shownBy a)) (sought .steady) (takesNot the-way (pop-rows .short the-way k .0 (pop-says a))) w
+          steady-step im (pops buf) (idle-plan no (ap (popped g) a) (ap shownBy a)) (sought .steady)
+          (takesNot the-way (pop-rows .short the-way k .0 (pop-says a))) w
       by (isThis h a X) = found-step gh h a X w Fr

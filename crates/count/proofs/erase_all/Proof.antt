@@ -30,16 +30,24 @@ unfolding eraseAll
 loop-holds c = (refl, omega arith, λ o r x. (rw (order-first (c .before .args .g)) x))
 
 erase-page-requires : tie.Need-erase-page-requires Inv-loop μ-loop
-erase-page-requires c κs = ((rw (c .before .before .before .loop .inv .0) (c .before .before .before .before .before .pre)), omega arith)
+erase-page-requires c κs =
+    let pre = c .before .before .before .before .before .pre in
+    let loop-inv-0 = c .before .before .before .loop .inv .0 in
+    ((rw loop-inv-0 pre), omega arith)
 
 same-length : tie.Need-same-length Inv-loop μ-loop
-same-length c = c .before .before .before .erase-page .kept .0 ∙ c .before .before .before .before .before .before .before .loop .inv .0
+same-length c =
+    let loop = c .before .before .before .before .before .before .before .loop in
+    let erase-page = c .before .before .before .erase-page in
+    erase-page .kept .0 ∙ loop .inv .0
 
 returns : tie.Need-returns Inv-loop μ-loop
 unfolding eraseAll
 returns c =
+    let args-b = c .before .before .before .before .before .before .before .before .before .args .b in
     let l = c .before .before .before .before .before .before .before .loop in
-    under-cut (c .before .before .before .before .before .before .before .before .before .args .b) _ (ran-plan done (l .inv .2 _ _ (erases-cut (l .p) (omega arith) (c .before .before .before .erase-page .ensures) (c .if2 .taken)))) (c .if2 .taken)
+    let erase-page-ensures = c .before .before .before .erase-page .ensures in
+    under-cut args-b _ (ran-plan done (l .inv .2 _ _ (erases-cut (l .p) (omega arith) erase-page-ensures (c .if2 .taken)))) (c .if2 .taken)
 
 add-p : tie.Need-add-p Inv-loop μ-loop
 add-p c = omega arith
@@ -50,7 +58,12 @@ loop-less c = omega arith
 loop-again : tie.Need-loop-again Inv-loop μ-loop
 loop-again c =
     let l = c .before .before .before .before .before .before .before .before .loop in
-    (c .before .before .before .before .erase-page .kept .0 ∙ l .inv .0, omega arith, λ o r y. l .inv .2 o r (erases-on (l .p) (omega arith) (c .before .before .before .before .erase-page .ensures) (c .before .if2 .left) y))
+    let erase-page-ensures = c .before .before .before .before .erase-page .ensures in
+    let erase-page-kept-0 = c .before .before .before .before .erase-page .kept .0 in (
+      erase-page-kept-0 ∙ l .inv .0,
+      omega arith,
+      λ o r y. l .inv .2 o r (erases-on (l .p) (omega arith) erase-page-ensures (c .before .if2 .left) y),
+    )
 
 same-length-2 : tie.Need-same-length-2 Inv-loop μ-loop
 same-length-2 c = c .before .before .loop .inv .0
@@ -58,9 +71,14 @@ same-length-2 c = c .before .before .loop .inv .0
 returns-2 : tie.Need-returns-2 Inv-loop μ-loop
 unfolding eraseAll
 returns-2 c =
-    let l = c .before .before .loop in
+    let args-b = c .before .before .before .before .args .b in
     let g = c .before .before .before .before .args .g in
-    under-done {r = record { cut = false; budget = l .budget }} (c .before .before .before .before .args .b) _ (ran-plan done (l .inv .2 _ _ (rw (order-last g (l .p) (omega arith), erases-none g) (did-none g (l .budget) (l .image))))) refl
+    let l = c .before .before .loop in
+    under-done {r = record {
+      cut = false;
+      budget = l .budget;
+    }} args-b _ (ran-plan done
+    (l .inv .2 _ _ (rw (order-last g (l .p) (omega arith), erases-none g) (did-none g (l .budget) (l .image))))) refl
 
 pub erase-all-spec : {M : Type 1} → statement M
 erase-all-spec =

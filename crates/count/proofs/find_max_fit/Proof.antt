@@ -16,7 +16,10 @@ same-length c = search needs
 
 returns : tie.Need-returns
 unfolding findMaxFit
-returns c = rw (c .fit-by .ensures) (ran-under (c .before .before .before .before .before .before .args .b) _ (c .before .before .before .run-with-auto-repair .ensures))
+returns c =
+    let args = c .before .before .before .before .before .before .args in
+    let run-with-auto-repair = c .before .before .before .run-with-auto-repair in
+    rw (c .fit-by .ensures) (ran-under (args .b) _ (run-with-auto-repair .ensures))
 
 pub find-max-fit-spec : {M : Type 1} → statement M
 find-max-fit-spec =

@@ -19,7 +19,10 @@ same-length c = search needs
 
 returns : tie.Need-returns
 unfolding spaceLeft
-returns c = rw (c .space-by .ensures) (ran-under (c .before .before .before .before .before .before .args .b) _ (c .before .before .before .run-with-auto-repair .ensures))
+returns c =
+    let args = c .before .before .before .before .before .before .args in
+    let run-with-auto-repair = c .before .before .before .run-with-auto-repair in
+    rw (c .space-by .ensures) (ran-under (args .b) _ (run-with-auto-repair .ensures))
 
 pub space-left-spec : {M : Type 1} → statement M
 space-left-spec =

@@ -12,7 +12,9 @@ use Rattle.peek.proofs.pop.Statement.{statement}
 use Rattle.peek.proofs.pop.Tie as tie
 
 search-requires : tie.Need-search-requires
-search-requires c κs = c .before .before .before .before .pre
+search-requires c κs =
+    let pre = c .before .before .before .before .pre in
+    pre
 
 same-length : tie.Need-same-length
 same-length c = search needs
@@ -22,7 +24,10 @@ same-length-2 c = search needs
 
 returns : tie.Need-returns
 unfolding calls.pop
-returns c = showed-under-cut (c .before .before .before .before .before .before .before .before .before .before .before .args .b) _ (showed-bind-cut _ (c .before .before .before .before .before .before .search .ensures .shows) empty (c .if1 .taken)) (c .if1 .taken)
+returns c =
+    let args = c .before .before .before .before .before .before .before .before .before .before .before .args in
+    let the-search = c .before .before .before .before .before .before .search in
+    showed-under-cut (args .b) _ (showed-bind-cut _ (the-search .ensures .shows) empty (c .if1 .taken)) (c .if1 .taken)
 
 pop-found-requires : tie.Need-pop-found-requires
 pop-found-requires c κs = search needs
@@ -39,9 +44,14 @@ same-length-4 c = search needs
 returns-2 : tie.Need-returns-2
 unfolding calls.pop
 returns-2 c =
-    let f = foundAs (c .before .before .before .before .before .before .before .before .before .before .before .before .before .before .before .before .args .g) (c .before .before .before .before .before .before .before .before .before .before .before .search .last .0) (c .before .before .before .before .before .before .before .before .before .before .before .search .result .found) in
-    let e = acted-quiet _ (popped-quiet (c .before .before .before .before .before .before .before .before .before .before .before .before .before .before .before .before .args .g) f) (c .before .before .before .pop-found .ensures) in
-    rw (c .shown-by .ensures (c .before .before .before .before .before .before .before .before .before .before .before .before .before .before .before .before .args .g) (c .before .before .before .before .before .before .before .before .before .before .before .search .last .0)) (showed-under (c .before .before .before .before .before .before .before .before .before .before .before .before .before .before .before .before .args .b) _ (showed-bind-then _ (c .before .before .before .before .before .before .before .before .before .before .before .search .ensures .shows) (c .before .before .before .before .before .if1 .left) (showed-plan (shownBy f) e)))
+    let args = c .before .before .before .before .before .before .before .before .before .before .before .before .before .before .before .before .args in
+    let the-search = c .before .before .before .before .before .before .before .before .before .before .before .search in
+    let if1 = c .before .before .before .before .before .if1 in
+    let pop-found = c .before .before .before .pop-found in
+    let f = foundAs (args .g) (the-search .last .0) (the-search .result .found) in
+    let e = acted-quiet _ (popped-quiet (args .g) f) (pop-found .ensures) in
+    rw (c .shown-by .ensures (args .g) (the-search .last .0))
+    (showed-under (args .b) _ (showed-bind-then _ (the-search .ensures .shows) (if1 .left) (showed-plan (shownBy f) e)))
 
 pub pop-spec : {M : Type 1} → statement M
 pop-spec =

@@ -28,10 +28,14 @@ returns-2 : tie.Need-returns-2
 returns-2 c = λ g im. (rw (c .before .before .if1 .left, c .enum-told .given .1))
 
 returns-3 : tie.Need-returns-3
-returns-3 c = λ g im. (rw (c .before .before .before .if1 .left, c .before .found .given .1))
+returns-3 c =
+    let if1 = c .before .before .before .if1 in
+    λ g im. (rw (if1 .left, c .before .found .given .1))
 
 returns-4 : tie.Need-returns-4
-returns-4 c = λ g im. (rw (c .before .before .before .before .if1 .left, c .before .before .found2 .given .1))
+returns-4 c =
+    let if1 = c .before .before .before .before .if1 in
+    λ g im. (rw (if1 .left, c .before .before .found2 .given .1))
 
 returns-5 : tie.Need-returns-5
 returns-5 c = λ g im. (rw (c .before .before .if1 .left, c .enum-told2 .given .1))

@@ -12,17 +12,25 @@ is-too-big-requires c κs = c .before .before .pre .good
 
 returns : tie.Need-returns
 unfolding push
-returns c = rw (sym (c .before .is-too-big .ensures) ∙ c .if1 .taken) (under-done (c .before .before .before .before .args .b) _ (ran-none (c .before .before .before .before .args .g) (c .before .before .before .before .args .b) (c .before .before .before .before .args .image .now) _) refl)
+returns c =
+    let args = c .before .before .before .before .args in
+    rw (sym (c .before .is-too-big .ensures) ∙ c .if1 .taken)
+    (under-done (args .b) _ (ran-none (args .g) (args .b) (args .image .now) _) refl)
 
 push-inner-requires : tie.Need-push-inner-requires
-push-inner-requires c κs = (c .before .before .before .before .before .pre, sym (c .before .before .is-too-big .ensures) ∙ c .before .if1 .left)
+push-inner-requires c κs =
+    let pre = c .before .before .before .before .before .pre in
+    (pre, sym (c .before .before .is-too-big .ensures) ∙ c .before .if1 .left)
 
 same-length : tie.Need-same-length
 same-length c = search needs
 
 returns-2 : tie.Need-returns-2
 unfolding push
-returns-2 c = rw (sym (c .before .before .before .before .before .is-too-big .ensures) ∙ c .before .before .before .before .if1 .left) (c .before .before .push-inner .ensures)
+returns-2 c =
+    let is-too-big = c .before .before .before .before .before .is-too-big in
+    let if1 = c .before .before .before .before .if1 in
+    rw (sym (is-too-big .ensures) ∙ if1 .left) (c .before .before .push-inner .ensures)
 
 pub push-spec : {M : Type 1} → statement M
 push-spec =

@@ -15,17 +15,28 @@ enum-known-checked-2 : tie.Need-enum-known-checked-2
 enum-known-checked-2 c = search needs
 
 push-requires : tie.Need-push-requires
-push-requires c κs = c .before .before .before .before .check-geometry .ensures .within _ (c .before .before .checked2 .given .1)
+push-requires c κs =
+    let check-geometry = c .before .before .before .before .check-geometry in
+    check-geometry .ensures .within _ (c .before .before .checked2 .given .1)
 
 returns : tie.Need-returns
-returns c = answers-refused (c .before .before .before .before .before .before .args .s) (c .before .before .before .before .before .before .args .image .now) (pushes (c .before .before .before .before .before .before .args .slip .now) (c .before .before .before .before .before .before .args .over)) (c .before .before .before .check-geometry .ensures) _ (c .before .checked .given .1) (c .before .before .before .before .before .before .args .b)
+returns c =
+    let args = c .before .before .before .before .before .before .args in
+    let check-geometry = c .before .before .before .check-geometry in
+    answers-refused (args .s) (args .image .now) (pushes (args .slip .now) (args .over)) (check-geometry .ensures) _
+    (c .before .checked .given .1) (args .b)
 
 same-length : tie.Need-same-length
 same-length c = search needs
 
 returns-2 : tie.Need-returns-2
 unfolding planOf
-returns-2 c = answers-accepted (c .before .before .before .before .before .before .before .before .before .before .args .s) (c .before .before .before .before .before .before .before .before .before .before .args .image .now) (pushes (c .before .before .before .before .before .before .before .before .before .before .args .slip .now) (c .before .before .before .before .before .before .before .before .before .before .args .over)) (c .before .before .before .before .before .before .before .check-geometry .ensures) (c .before .before .before .before .before .checked2 .given .1) (c .before .before .before .before .before .before .before .before .before .before .args .b) (c .before .before .push .ensures)
+returns-2 c =
+    let args = c .before .before .before .before .before .before .before .before .before .before .args in
+    let check-geometry = c .before .before .before .before .before .before .before .check-geometry in
+    let checked2 = c .before .before .before .before .before .checked2 in
+    answers-accepted (args .s) (args .image .now) (pushes (args .slip .now) (args .over)) (check-geometry .ensures) (checked2 .given .1)
+    (args .b) (c .before .before .push .ensures)
 
 pub push-under-spec : {M : Type 1} → statement M
 push-under-spec =

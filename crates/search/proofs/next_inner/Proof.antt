@@ -1,4 +1,5 @@
--- `search::next_inner` meets its contract: what the search does from here on, with the turns that are left, is what it does from the start with all of them. Assumes nothing.
+-- `search::next_inner` meets its contract: what the search does from here on, with the turns that are left, is what it does from the start
+-- with all of them. Assumes nothing.
 use borrow.Author.Needs.{needs}
 use native.Mathlib.Omega.{arith}
 use mathlib.Core.Path.{_≡_, refl, ap, _∙_}
@@ -15,8 +16,10 @@ use Rattle.search.proofs.next_inner.Statement.{statement}
 use Rattle.search.proofs.next_inner.Tie as tie
 
 abbrev Inv-loop : tie.InvT-loop
-Inv-loop image₀ buffer₀ g oldest clears budget₀ stand₀ turns₀ image buffer budget stand turns = (length image ≡ length image₀) × (length buffer ≡ length buffer₀) × StandIn g stand
-    × ((o e : List ℕ) (r : Spent) (x : Try Stand Outcome) → Showed g budget (nextItem g (length buffer₀) (oldest .0) clears turns (standAs stand) image) image o buffer e r x
+Inv-loop image₀ buffer₀ g oldest clears budget₀ stand₀ turns₀ image buffer budget stand turns =
+    (length image ≡ length image₀) × (length buffer ≡ length buffer₀) × StandIn g stand
+    × ((o e : List ℕ) (r : Spent) (x : Try Stand Outcome)
+    → Showed g budget (nextItem g (length buffer₀) (oldest .0) clears turns (standAs stand) image) image o buffer e r x
     → Showed g budget₀ (nextItem g (length buffer₀) (oldest .0) clears turns₀ (standAs stand₀) image₀) image₀ o buffer₀ e r x)
 
 abbrev μ-loop : tie.MeasureT-loop
@@ -29,30 +32,59 @@ loop-holds : tie.Need-loop-holds Inv-loop μ-loop
 loop-holds c = (refl, refl, c .before .before .before .pre .1, λ o e r x h. h)
 
 take-turn-requires : tie.Need-take-turn-requires Inv-loop μ-loop
-take-turn-requires c κs = ((rw (c .before .before .before .loop .inv .0) (c .before .before .before .before .before .before .before .pre .0)), c .before .before .before .loop .inv .2)
+take-turn-requires c κs = (
+  (rw (c .before .before .before .loop .inv .0) (c .before .before .before .before .before .before .before .pre .0)),
+  c .before .before .before .loop .inv .2,
+)
 
 same-length : tie.Need-same-length Inv-loop μ-loop
-same-length c = c .before .before .before .before .before .before .take-turn .kept .0 ∙ c .before .before .before .before .before .before .before .before .before .before .loop .inv .0
+same-length c = c .before .before .before .before .before .before .take-turn .kept .0
+    ∙ c .before .before .before .before .before .before .before .before .before .before .loop .inv .0
 
 same-length-2 : tie.Need-same-length-2 Inv-loop μ-loop
-same-length-2 c = c .before .before .before .before .before .before .take-turn .kept .1 .0 ∙ c .before .before .before .before .before .before .before .before .before .before .loop .inv .1
+same-length-2 c = c .before .before .before .before .before .before .take-turn .kept .1 .0
+    ∙ c .before .before .before .before .before .before .before .before .before .before .loop .inv .1
 
 returns : tie.Need-returns Inv-loop μ-loop
 unfolding nextStep
-returns c = record { shows = c .before .before .before .before .before .before .before .before .before .before .loop .inv .3 _ _ _ _ (turn-cut (c .before .before .before .before .before .before .before .before .before .before .before .before .before .before .args .oldest .0) (c .before .before .before .before .before .before .before .before .before .before .before .before .before .before .args .clears) (standAs (c .before .before .before .before .before .before .before .before .before .before .loop .stand)) (c .before .before .before .before .before .before .take-turn .ensures .shows) _ _ (omega arith) (c .before .before .before .before .before .before .before .before .before .before .loop .inv .1) _ (c .if1 .taken)); within = tt }
+returns c = record {
+  shows = c .before .before .before .before .before .before .before .before .before .before .loop .inv .3 _ _ _ _
+      (turn-cut (c .before .before .before .before .before .before .before .before .before .before .before .before .before .before .args
+      .oldest .0) (c .before .before .before .before .before .before .before .before .before .before .before .before .before .before .args
+      .clears) (standAs (c .before .before .before .before .before .before .before .before .before .before .loop .stand))
+      (c .before .before .before .before .before .before .take-turn .ensures .shows) _ _ (omega arith)
+      (c .before .before .before .before .before .before .before .before .before .before .loop .inv .1) _ (c .if1 .taken));
+  within = tt;
+}
 
 enum-known-turn : tie.Need-enum-known-turn Inv-loop μ-loop
 enum-known-turn c = search needs
 
 same-length-3 : tie.Need-same-length-3 Inv-loop μ-loop
-same-length-3 c = c .before .before .before .before .before .before .before .before .before .take-turn .kept .0 ∙ c .before .before .before .before .before .before .before .before .before .before .before .before .before .loop .inv .0
+same-length-3 c = c .before .before .before .before .before .before .before .before .before .take-turn .kept .0
+    ∙ c .before .before .before .before .before .before .before .before .before .before .before .before .before .loop .inv .0
 
 same-length-4 : tie.Need-same-length-4 Inv-loop μ-loop
-same-length-4 c = c .before .before .before .before .before .before .before .before .before .take-turn .kept .1 .0 ∙ c .before .before .before .before .before .before .before .before .before .before .before .before .before .loop .inv .1
+same-length-4 c = c .before .before .before .before .before .before .before .before .before .take-turn .kept .1 .0
+    ∙ c .before .before .before .before .before .before .before .before .before .before .before .before .before .loop .inv .1
 
 returns-2 : tie.Need-returns-2 Inv-loop μ-loop
 unfolding nextStep
-returns-2 c = record { shows = c .before .before .before .before .before .before .before .before .before .before .before .before .before .loop .inv .3 _ _ _ _ (turn-ends (c .before .before .before .before .before .before .before .before .before .before .before .before .before .before .before .before .before .args .oldest .0) (c .before .before .before .before .before .before .before .before .before .before .before .before .before .before .before .before .before .args .clears) (standAs (c .before .before .before .before .before .before .before .before .before .before .before .before .before .loop .stand)) (c .before .before .before .before .before .before .before .before .before .take-turn .ensures .shows) _ _ (omega arith) (c .before .before .before .before .before .before .before .before .before .before .before .before .before .loop .inv .1) (c .before .before .before .if1 .left) _ (ap (turnAs (c .before .before .before .before .before .before .before .before .before .before .before .before .before .before .before .before .before .args .g) _) (c .before .turn .given .1))); within = (rw (c .before .turn .given .1) at (c .before .before .before .before .before .before .before .before .before .take-turn .ensures .within)) }
+returns-2 c = record {
+  shows = c .before .before .before .before .before .before .before .before .before .before .before .before .before .loop .inv .3 _ _ _
+      _ (turn-ends (c .before .before .before .before .before .before .before .before .before .before .before .before .before .before .before
+      .before .before .args .oldest .0)
+      (c .before .before .before .before .before .before .before .before .before .before .before .before .before .before .before .before
+      .before .args .clears) (standAs
+      (c .before .before .before .before .before .before .before .before .before .before .before .before .before .loop .stand))
+      (c .before .before .before .before .before .before .before .before .before .take-turn .ensures .shows) _ _ (omega arith)
+      (c .before .before .before .before .before .before .before .before .before .before .before .before .before .loop .inv .1)
+      (c .before .before .before .if1 .left) _
+      (ap (turnAs (c .before .before .before .before .before .before .before .before .before .before .before .before .before .before .before
+      .before .before .args .g) _) (c .before .turn .given .1)));
+  within = (rw (c .before .turn .given .1) at (c .before .before .before .before .before .before .before .before .before .take-turn
+      .ensures .within));
+}
 
 enum-known-turn-2 : tie.Need-enum-known-turn-2 Inv-loop μ-loop
 enum-known-turn-2 c = search needs
@@ -70,7 +102,14 @@ loop-again c =
       t .kept .0 ∙ l .inv .0,
       t .kept .1 .0 ∙ l .inv .1,
       (rw (c .before .before .turn2 .given .1) at (t .ensures .within)),
-      λ o e r x v. l .inv .3 o e r x (turn-goes (c .before .before .before .before .before .before .before .before .before .before .before .before .before .before .before .before .before .before .args .oldest .0) (c .before .before .before .before .before .before .before .before .before .before .before .before .before .before .before .before .before .before .args .clears) (standAs (l .stand)) (t .ensures .shows) _ _ (omega arith) (l .inv .1) (c .before .before .before .before .if1 .left) _ (ap (turnAs (c .before .before .before .before .before .before .before .before .before .before .before .before .before .before .before .before .before .before .args .g) _) (c .before .before .turn2 .given .1)) v),
+      λ o e r x v. l .inv .3 o e r x
+          (turn-goes (c .before .before .before .before .before .before .before .before .before .before .before .before .before .before
+          .before .before .before .before .args .oldest .0)
+          (c .before .before .before .before .before .before .before .before .before .before .before .before .before .before .before .before
+          .before .before .args .clears) (standAs (l .stand)) (t .ensures .shows) _ _ (omega arith) (l .inv .1)
+          (c .before .before .before .before .if1 .left) _
+          (ap (turnAs (c .before .before .before .before .before .before .before .before .before .before .before .before .before .before
+          .before .before .before .before .args .g) _) (c .before .before .turn2 .given .1)) v),
     )
 
 same-length-5 : tie.Need-same-length-5 Inv-loop μ-loop
@@ -83,7 +122,12 @@ returns-3 : tie.Need-returns-3 Inv-loop μ-loop
 unfolding nextStep
 returns-3 c =
     let z : c .before .loop .turns ≡ 0 = omega arith in
-    record { shows = c .before .loop .inv .3 _ _ _ _ (rw z (turns-over (c .before .before .before .before .before .args .g) (c .before .loop .budget) _ _ _ (standAs (c .before .loop .stand)) (c .before .loop .image) (c .before .loop .buffer))); within = tt }
+    record {
+      shows = c .before .loop .inv .3 _ _ _ _
+          (rw z (turns-over (c .before .before .before .before .before .args .g) (c .before .loop .budget) _ _ _
+          (standAs (c .before .loop .stand)) (c .before .loop .image) (c .before .loop .buffer)));
+      within = tt;
+    }
 
 pub next-inner-spec : {M : Type 1} → statement M
 next-inner-spec =
