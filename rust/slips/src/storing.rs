@@ -6,7 +6,7 @@ use crate::refusal::refused;
 use crate::shape::Numbers;
 use crate::show::{counted, note, numbered, say};
 use crate::slip::{self, Showing};
-use crate::survey::{self, Page, is_erased, note_unreadable};
+use crate::survey::{self, Page, note_unreadable};
 use slipq::{ItemState, PageState, Queue};
 
 pub fn queue(stored: &mut Stored) -> Queue<'_> {
@@ -105,13 +105,13 @@ impl Change {
         Change { held, pages, force }
     }
 
-    /// The pages that the call has erased.
+    /// The pages that the call has erased: a store of a word sets no bit, so a bit that is set anew tells.
     fn erased(&self) -> impl Iterator<Item = &Page> {
         let size = self.held.stored.shape.page as usize;
         self.pages.iter().filter(move |page| {
-            let bytes = page.address as usize..page.address as usize + size;
-            !is_erased(&self.held.before[bytes.clone()])
-                && is_erased(&self.held.stored.image[bytes])
+            let before = &self.held.before[page.address as usize..][..size];
+            let after = &self.held.stored.image[page.address as usize..][..size];
+            before.iter().zip(after).any(|(old, new)| new & !old != 0)
         })
     }
 
