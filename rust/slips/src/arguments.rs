@@ -35,24 +35,35 @@ pub fn parse(
             None => (rest, None),
             Some((name, value)) => (name, Some(OsString::from(value))),
         };
-        let Some((name, takes_value)) = allowed.iter().find(|(known, _)| *known == name) else {
-            return usage(format!("there is no option --{name} here"));
-        };
-        if parsed.options.iter().any(|(known, _)| known == name) {
+        let option = option(name, joined, &mut words, allowed)?;
+        if parsed.has(option.0) {
             return usage(format!("--{name} is given twice"));
         }
-        let value = match (takes_value, joined) {
-            (false, None) => OsString::new(),
-            (false, Some(_)) => return usage(format!("--{name} takes no value")),
-            (true, Some(value)) => value,
-            (true, None) => match words.next() {
-                Some(value) => value,
-                None => return usage(format!("--{name} needs a value")),
-            },
-        };
-        parsed.options.push((name, value));
+        parsed.options.push(option);
     }
     Ok(parsed)
+}
+
+/// An option and its value, which is joined to it or the next word.
+fn option(
+    name: &str,
+    joined: Option<OsString>,
+    words: &mut impl Iterator<Item = OsString>,
+    allowed: &[Allowed],
+) -> Result<(&'static str, OsString), Failure> {
+    let Some((name, takes_value)) = allowed.iter().find(|(known, _)| *known == name) else {
+        return usage(format!("there is no option --{name} here"));
+    };
+    let value = match (takes_value, joined) {
+        (false, None) => Some(OsString::new()),
+        (false, Some(_)) => return usage(format!("--{name} takes no value")),
+        (true, Some(value)) => Some(value),
+        (true, None) => words.next(),
+    };
+    match value {
+        Some(value) => Ok((name, value)),
+        None => usage(format!("--{name} needs a value")),
+    }
 }
 
 fn usage<T>(says: String) -> Result<T, Failure> {

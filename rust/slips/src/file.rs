@@ -62,7 +62,7 @@ pub fn hold(name: &Path, given: Numbers, force: bool) -> Result<Held, Failure> {
     test_replaceable(&real).map_err(|error| unwritten(name, error))?;
     let noted = read_shape_file(&real)?;
     if let Some(noted) = noted.filter(|_| !force) {
-        test_agreement(&real, given, noted)?;
+        test_agreement(named(name, &real), given, noted)?;
     }
     let stored = read_real(name, &real, given, noted)?;
     Ok(Held {
@@ -73,13 +73,18 @@ pub fn hold(name: &Path, given: Numbers, force: bool) -> Result<Held, Failure> {
     })
 }
 
-fn test_agreement(real: &Path, given: Numbers, noted: Numbers) -> Result<(), Failure> {
+/// The name beside which the shape file stands: the one that was given, unless that is a link.
+fn named<'a>(name: &'a Path, real: &'a Path) -> &'a Path {
+    if name.is_symlink() { real } else { name }
+}
+
+fn test_agreement(file: &Path, given: Numbers, noted: Numbers) -> Result<(), Failure> {
     let Some((number, given, noted)) = Numbers::contradiction(given, noted) else {
         return Ok(());
     };
     Err(Failure::Contradicts(format!(
         "--{number} {given} contradicts {}, which says {noted}: leave it out, or give --force",
-        shape_file(real).display()
+        shape_file(file).display()
     )))
 }
 
@@ -93,7 +98,7 @@ fn read_real(
     let known = noted.unwrap_or_default();
     let shape = Numbers::shape(given, known, image.len()).map_err(|says| {
         let beside = match noted {
-            None => format!(", or write {}", shape_file(name).display()),
+            None => format!(", or write {}", shape_file(named(name, real)).display()),
             Some(_) => String::new(),
         };
         Failure::NoShape(format!("{}: {says}{beside}", name.display()))

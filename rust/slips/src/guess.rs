@@ -1,7 +1,7 @@
 //! Which shapes an image reads well in.
 //!
-//! A shape is tried page by page: what marks and whole items take speaks for it, and what is neither FF nor readable, or torn, against
-//! it, twice. Tried are pages that divide the file, and powers of two; all of the file, and where that is too long or reads badly, the
+//! A shape is tried page by page: what marks and whole items take speaks for it, what is torn against it, and what is neither FF nor
+//! readable twice. Tried are pages that divide the file, and powers of two; all of the file, and where that is too long or reads badly, the
 //! pages in a row that speak for the shape the most.
 use crate::arguments::Words;
 use crate::failure::Failure;
@@ -71,13 +71,13 @@ impl Reading {
             PageState::Closed => 2,
             PageState::Corrupted => -2,
         };
-        let against = bytes_of(true) + page.unreadable as i64;
+        let against = bytes_of(true) + 2 * page.unreadable as i64;
         Reading {
             waiting: page.count(ItemState::Waits),
             popped: page.count(ItemState::Popped),
             torn: page.count(ItemState::Torn),
             unreadable: page.unreadable,
-            score: bytes_of(false) + marks * i64::from(shape.word) - 2 * against,
+            score: bytes_of(false) + marks * i64::from(shape.word) - against,
         }
     }
 }
@@ -87,42 +87,51 @@ pub fn guess(words: Words) -> Result<(), Failure> {
     let [name] = words.places(["FILE"])?;
     let name: &Path = name.as_ref();
     let mut image = std::fs::read(name).map_err(|error| unread(name, error))?;
-    let real = std::fs::canonicalize(name).unwrap_or_else(|_| name.to_owned());
-    let noted = read_shape_file(&real)?.unwrap_or_default();
-    let noted = Numbers::shape(Numbers::default(), noted, image.len()).ok();
     let mut found = readings(&mut image, given);
-    if found.is_empty() {
+    // powers of two first where the slips do not decide: most chips have such pages
+    found.sort_by_key(|(shape, reading)| {
+        let is_likely = shape.page.is_power_of_two();
+        (-reading.score, !is_likely, shape.page, shape.word)
+    });
+    let Some(best) = found.first().map(|(_, reading)| reading.score) else {
         return Err(Failure::NoShape(format!(
             "{}: no shape reads more of it than it leaves unread",
             name.display()
         )));
-    }
-    found.sort_by_key(|(shape, reading)| (-reading.score, shape.page, shape.word));
-    let best = found[0].1.score;
+    };
     // what reads less than half as well is no rival
     found.retain(|(_, reading)| 2 * reading.score >= best);
-    let equal = found
-        .iter()
-        .filter(|(_, reading)| reading.score == best)
-        .count();
+    let is_best = |(_, reading): &&(Shape, Reading)| reading.score == best;
+    let equal = found.iter().filter(is_best).count();
+    say_all(&found, noted_shape(name, image.len()))?;
+    match equal {
+        1 => Ok(()),
+        2..=MOST_SHOWN => say(&format!("the first {equal} read equally well")),
+        _ => say(&format!(
+            "{equal} shapes read equally well; {MOST_SHOWN} of them are shown"
+        )),
+    }
+}
+
+fn say_all(found: &[(Shape, Reading)], noted: Option<Shape>) -> Result<(), Failure> {
     for (shape, reading) in found.iter().take(MOST_SHOWN) {
-        let beside = if Some(*shape) == noted {
+        let is_noted = Some(*shape) == noted;
+        let beside = if is_noted {
             "  (as FILE.shape says)"
         } else {
             ""
         };
-        say(&format!(
-            "{}{beside}\n    {}",
-            options(*shape),
-            line(reading)
-        ))?;
-    }
-    if equal > 1 {
-        say(&format!(
-            "the first {equal} read equally well: the slips do not tell them apart"
-        ))?;
+        let (shape, reading) = (options(*shape), line(reading));
+        say(&format!("{shape}{beside}\n    {reading}"))?;
     }
     Ok(())
+}
+
+/// What the shape file says, if it can be read.
+fn noted_shape(name: &Path, image_len: usize) -> Option<Shape> {
+    let real = std::fs::canonicalize(name).ok()?;
+    let noted = read_shape_file(&real).ok()??;
+    Numbers::shape(Numbers::default(), noted, image_len).ok()
 }
 
 fn line(reading: &Reading) -> String {

@@ -223,6 +223,22 @@ mod tests {
     use super::*;
     use slipq::{Error, Queue, Shape};
 
+    fn text(image: Vec<u8>, shape: Shape) -> String {
+        let stored = Stored {
+            name: "a".into(),
+            image,
+            shape,
+        };
+        let picture = Picture {
+            survey: &Survey::of(&stored.image, shape),
+            stored: &stored,
+            with_items: true,
+            in_hex: false,
+            in_colour: false,
+        };
+        picture.text()
+    }
+
     #[test]
     fn a_page_of_each_kind() {
         let shape = Shape::of(2, 80, 4);
@@ -234,20 +250,7 @@ mod tests {
         assert_eq!(queue.push_limited(b"cut", false, 1), Err(Error::Cut));
         assert_eq!(queue.push_limited(b"torn here", false, 4), Err(Error::Cut));
         image[150] = 0;
-        let survey = Survey::of(&image, shape);
-        let stored = Stored {
-            name: "a".into(),
-            image,
-            shape,
-        };
-        let picture = Picture {
-            stored: &stored,
-            survey: &survey,
-            with_items: true,
-            in_hex: false,
-            in_colour: false,
-        };
-        let text = picture.text();
+        let text = text(image, shape);
         let lines: Vec<&str> = text.lines().collect();
         assert_eq!(
             lines[..11],

@@ -62,11 +62,9 @@ pub fn pop(words: Words) -> Result<(), Failure> {
     change.test_marks()?;
     if let Ok(Some(slip)) = &answer {
         // what cannot be shown is not taken
-        showing.say(slip).inspect_err(|failure| {
-            if failure.is_quiet() {
-                note("nobody reads the slip, so it stays in the queue");
-            }
-        })?;
+        showing
+            .say(slip)
+            .inspect_err(|_| note("the slip cannot be shown, so it stays in the queue"))?;
     }
     change.keep()?;
     match answer {

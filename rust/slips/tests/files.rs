@@ -6,19 +6,33 @@ use std::fs::{self, Permissions};
 use std::os::unix::fs::{FileTypeExt, MetadataExt, PermissionsExt, chown, symlink};
 use std::process::Command;
 
-#[test]
-fn pushes_through_a_link_lose_nothing() {
-    let tool = Tool(folder("link"));
+/// An image in one folder, and a link to it in another.
+fn linked(name: &str) -> Tool {
+    let tool = Tool(folder(name));
     fs::create_dir(tool.0.join("real")).unwrap();
     fs::create_dir(tool.0.join("links")).unwrap();
-    let new = [
-        "new", "real/a", "--page", "1024", "--word", "4", "--pages", "4",
-    ];
-    assert_eq!(tool.status(&new), 0);
+    let shape = ["--page", "1024", "--word", "4", "--pages", "4"];
+    assert_eq!(tool.status(&[&["new", "real/a"], &shape[..]].concat()), 0);
     symlink("../real/a", tool.0.join("links/a")).unwrap();
-    // the shape beside the real file is enough, and what stands beside the link has no say
-    assert_eq!(tool.status(&["push", "links/a", "first"]), 0);
-    tool.write("links/a.shape", b"start 0\npage 1024\nword 4\npages 4\n");
+    tool
+}
+
+#[test]
+fn the_shape_of_a_link_stands_beside_the_real_file() {
+    let tool = linked("linked-shape");
+    assert_eq!(tool.status(&["push", "links/a", "slip"]), 0);
+    assert_eq!(tool.run(&["peek", "links/a"]), (0, "\"slip\"\n".into()));
+    assert!(tool.0.join("links/a").is_symlink());
+    let ran = tool.ran(&["push", "links/a", "slip", "--word", "8"]);
+    assert_eq!(ran.status, Some(64));
+    assert!(ran.err.contains("real/a.shape"), "{}", ran.err);
+}
+
+#[test]
+fn pushes_through_a_link_lose_nothing() {
+    let tool = linked("link");
+    // a shape file beside the link has no say, and does no harm
+    fs::copy(tool.0.join("real/a.shape"), tool.0.join("links/a.shape")).unwrap();
     let pushes: Vec<_> = (0..60)
         .map(|number: usize| {
             let path = ["real/a", "links/a"][number % 2];
@@ -29,9 +43,8 @@ fn pushes_through_a_link_lose_nothing() {
     for mut push in pushes {
         assert!(push.wait().unwrap().success());
     }
-    assert_eq!(tool.run(&["list", "real/a"]).1.lines().count(), 61);
+    assert_eq!(tool.run(&["list", "real/a"]).1.lines().count(), 60);
     assert!(tool.0.join("links/a").is_symlink());
-    assert!(!tool.0.join("real/a").is_symlink());
 }
 
 #[test]

@@ -22,10 +22,12 @@ fn torture_rolls_only_shapes_that_go() {
     // what no roll can mend is refused by its name
     assert_eq!(tool.status(&["torture", "--page", "30"]), 9);
     assert_eq!(tool.status(&["torture", "--page", "8192"]), 16);
-    assert_eq!(
-        tool.status(&["torture", "--page", "64", "--start", "32"]),
-        10
-    );
+    let given = |words: &[&str]| tool.status(&[&["torture"], words].concat());
+    assert_eq!(given(&["--page", "64", "--start", "32"]), 10);
+    assert_eq!(given(&["--word", "0"]), 9);
+    assert_eq!(given(&["--word", "64"]), 14);
+    assert_eq!(given(&["--word", "5"]), 15);
+    assert_eq!(given(&["--start", "4294967292"]), 64);
 }
 
 #[test]

@@ -35,8 +35,14 @@ fn a_limit_is_named() {
     let ran = shaped(&["--page", "64", "--pages", "3"]);
     assert_eq!(ran.status, Some(17));
     assert!(ran.err.contains("give --pages, at most 2"), "{}", ran.err);
+}
+
+#[test]
+fn a_dump_of_a_whole_chip_is_told_which_limit_it_passes() {
+    let tool = Tool(folder("whole-chip"));
+    let shaped = |page: &str| tool.ran(&["list", "dump", "--word", "4", "--page", page]);
     tool.write("dump", &[0xff; 65 * 64]);
-    let ran = shaped(&["--page", "64"]);
+    let ran = shaped("64");
     assert_eq!(ran.status, Some(16));
     assert!(
         ran.err
@@ -45,7 +51,7 @@ fn a_limit_is_named() {
         ran.err
     );
     tool.write("dump", &[0xff; 8192]);
-    let ran = shaped(&["--page", "8k"]);
+    let ran = shaped("8k");
     assert_eq!(ran.status, Some(16));
     assert!(
         ran.err.contains("a page of 8192 bytes is larger than 4096"),
@@ -75,6 +81,9 @@ fn a_pop_that_nobody_reads_keeps_the_slip() {
     let before = tool.image("a");
     let ran = tool.shell("exec \"$SLIPS\" pop a >&-");
     assert_eq!(ran.status, Some(74), "{}", ran.err);
+    assert!(ran.err.contains("it stays in the queue"), "{}", ran.err);
+    assert_eq!(tool.image("a"), before);
+    assert_eq!(tool.shell("\"$SLIPS\" pop a >/dev/full").status, Some(74));
     assert_eq!(tool.image("a"), before);
     let mut pop = tool.command(&["pop", "a"]);
     let ran = Ran::from(to_nobody(&mut pop));

@@ -7,9 +7,13 @@ use slipq::Shape;
 
 const LARGEST_PAGE: u32 = 4096;
 
+fn is_word(word: u32) -> bool {
+    matches!(word, 4 | 8 | 16 | 32)
+}
+
 /// The page sizes that go with a word and with what is given: some small ones, or where none of those goes, all.
 fn page_sizes(word: u32, given: Numbers) -> Vec<u32> {
-    if !matches!(word, 4 | 8 | 16 | 32) {
+    if !is_word(word) {
         return vec![];
     }
     let start = given.start.unwrap_or(0);
@@ -31,33 +35,31 @@ fn page_sizes(word: u32, given: Numbers) -> Vec<u32> {
     }
 }
 
-/// A shape that goes with what is given. Where none does, one that the check will refuse by the right name.
-fn any_shape(dice: &mut Dice, given: Numbers) -> Result<Shape, Failure> {
-    let words = match given.word {
-        Some(word) => vec![word],
-        None => vec![4, 4, 8, 16, 32],
-    };
+/// A word and a page that go with what is given. Where none do, some that the check will refuse by the right name.
+fn word_and_page(dice: &mut Dice, given: Numbers) -> Result<(u32, u32), Failure> {
+    let words = given.word.map_or(vec![4, 4, 8, 16, 32], |word| vec![word]);
     let goes = |word: &u32| !page_sizes(*word, given).is_empty();
     let words: Vec<u32> = words.into_iter().filter(goes).collect();
-    let (word, page) = match (&words[..], given.page) {
-        ([], Some(page)) => (given.word.unwrap_or(4), page),
-        ([], None) => {
-            return Err(Failure::Usage(
-                "no page goes with the numbers given: give --page".into(),
-            ));
-        }
-        _ => {
-            let rolled = dice.below(words.len());
-            let word = words[rolled];
-            let sizes = page_sizes(word, given);
-            (word, sizes[dice.below(sizes.len())])
-        }
-    };
+    if !words.is_empty() {
+        let rolled = dice.below(words.len());
+        let sizes = page_sizes(words[rolled], given);
+        return Ok((words[rolled], sizes[dice.below(sizes.len())]));
+    }
+    let word = given.word.unwrap_or(4);
+    match given.page {
+        Some(page) => Ok((word, page)),
+        None if !is_word(word) => Ok((word, word.saturating_mul(8))),
+        None => Err(Failure::Usage(
+            "no page goes with the start and the number of pages".into(),
+        )),
+    }
+}
+
+fn any_shape(dice: &mut Dice, given: Numbers) -> Result<Shape, Failure> {
+    let (word, page) = word_and_page(dice, given)?;
     let room = (u32::MAX - given.start.unwrap_or(page)) / page.max(1);
-    let counts: Vec<u32> = [1, 2, 2, 3, 4, 5]
-        .into_iter()
-        .filter(|count| *count <= room)
-        .collect();
+    let fits = |count: &u32| *count <= room;
+    let counts: Vec<u32> = [1, 2, 2, 3, 4, 5].into_iter().filter(fits).collect();
     let rolled = dice.below(counts.len().max(1));
     let pages = given.pages.or(counts.get(rolled).copied()).unwrap_or(1);
     let start = page.saturating_mul(dice.low(2) as u32);
@@ -77,6 +79,11 @@ pub fn begin(dice: &mut Dice, given: Numbers) -> Result<Chip, Failure> {
     shape
         .check(length)
         .map_err(|error| Failure::Shape(shape, error, explained(shape, error, length)))?;
+    if Vec::<u8>::new().try_reserve_exact(length).is_err() {
+        return Err(Failure::Usage(format!(
+            "the system does not give {length} bytes of addresses: give a lower --start"
+        )));
+    }
     Ok(Chip::new(shape, length, |length| dice.bytes(length)))
 }
 
