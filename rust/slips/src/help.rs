@@ -18,9 +18,10 @@ in memory. push, pop and erase change only a writable regular file; the new
 image is written to a temporary file in the same folder, which takes the old
 one's name, mode and owner. pop shows its slip first: what cannot be shown is
 not taken. An image is written after a refusal too, if the call made stores
-before it. A pop that answers empty and would erase a page with bytes that are
-neither FF nor readable leaves the file as it was, without --force; push and pop
-leave it as it was where they would erase a page with marks of another shape.
+before it. Without --force two calls leave the file as it was: a pop that
+answers empty and would erase a page with bytes that are neither FF nor
+readable, and a push or pop that would erase a page where most pages have marks
+of another shape.
 
 A slip is shown in quotes if it is text, else in hexadecimal without quotes.
 What is no part of the answer, as bytes that are neither FF nor readable, is

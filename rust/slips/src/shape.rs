@@ -146,7 +146,7 @@ pub fn explained(shape: Shape, error: ShapeError, image_len: usize) -> String {
             format!("a page of {page} bytes is larger than 4096, the most")
         }
         ShapeError::TooLarge => format!(
-            "{pages} pages are more than 64, the most: give --pages, and --start if the queue does not begin at {start}"
+            "{pages} pages are more than 64, the most: give --pages, and --start if the queue does not begin at {start} (`slips guess` looks for it)"
         ),
         ShapeError::OutsideImage => {
             let fitting = left / page.max(1) as usize;

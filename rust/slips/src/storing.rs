@@ -126,11 +126,14 @@ impl Change {
         )))
     }
 
-    /// No queue of this shape has left a mark that is neither 00 nor FF, so its page is not erased.
+    /// No store leaves a mark that is neither 00 nor FF. One such page is damage, an erase that was interrupted for one; but where most
+    /// pages have such marks, they are another shape's, and none of them is erased.
     fn test_marks(&self) -> Result<(), Failure> {
+        let odd = self.pages.iter().filter(|page| page.has_odd_mark).count();
+        let written = self.pages.iter().filter(|page| !page.is_erased).count();
         let erased = self.erased().filter(|page| page.has_odd_mark);
         let erased: Vec<u32> = erased.map(|page| page.number).collect();
-        if erased.is_empty() || self.force {
+        if erased.is_empty() || 2 * odd <= written || self.force {
             return Ok(());
         }
         Err(Failure::NoShape(format!(

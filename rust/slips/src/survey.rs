@@ -15,6 +15,8 @@ pub struct Page {
     pub unreadable: usize,
     /// a mark that is neither 00 nor FF throughout: no store of the queue leaves one
     pub has_odd_mark: bool,
+    /// all of it is FF
+    pub is_erased: bool,
 }
 
 impl Page {
@@ -37,6 +39,7 @@ impl Page {
             free,
             unreadable: (unreadable.len() + odd_marks) * word,
             has_odd_mark: odd_marks > 0,
+            is_erased: is_erased(bytes),
         }
     }
 
@@ -166,6 +169,9 @@ impl Survey {
         Some(match page.state {
             PageState::Corrupted => format!(
                 "page {number} is corrupted (its last mark alone is set) and has {slips}: a repair erases it; list --raw shows it"
+            ),
+            PageState::Open => format!(
+                "page {number} is open (neither mark is set), yet has {slips}, not on the list; list --raw shows it"
             ),
             _ if self.refusal.is_some() => {
                 format!("page {number} has {slips} that no pop comes to; list --raw shows it")

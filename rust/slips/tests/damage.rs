@@ -92,6 +92,33 @@ fn a_repair_says_what_it_erases() {
 }
 
 #[test]
+fn a_mark_that_an_erase_left_in_part_is_repaired() {
+    let tool = damaged("half-mark");
+    let mut image = tool.image("a");
+    image[64] = 0xfe;
+    tool.write("a", &image);
+    assert_eq!(tool.status(&["push", "a", "x"]), 0);
+    assert_eq!(tool.image("a")[64..128], [0xff; 64]);
+}
+
+#[test]
+fn an_open_page_with_slips_is_named() {
+    let tool = Tool(folder("open"));
+    tool.two_a_page("4", 6);
+    let mut image = tool.image("a");
+    image[128..132].fill(0xff);
+    tool.write("a", &image);
+    let ran = tool.ran(&["list", "a"]);
+    assert_eq!(ran.out.lines().count(), 4);
+    assert!(ran.err.starts_with("slips: page 2 is open"), "{}", ran.err);
+    let map = tool.run(&["map", "a"]).1;
+    assert!(
+        map.contains("all pages: 6 waiting, 4 of them on the list"),
+        "{map}"
+    );
+}
+
+#[test]
 fn corrupted_names_the_page_and_what_to_do() {
     let tool = Tool(folder("corrupted"));
     tool.two_a_page("2", 4);

@@ -76,20 +76,26 @@ fn a_pop_that_answers_empty_keeps_what_it_cannot_read() {
 }
 
 #[test]
-fn no_push_erases_a_page_with_marks_of_another_shape() {
-    let tool = Tool(folder("odd-mark"));
-    tool.two_a_page("2", 4);
-    assert_eq!(tool.status(&["pop", "a"]), 0);
-    assert_eq!(tool.status(&["pop", "a"]), 0);
-    let mut image = tool.image("a");
-    image[3] = 0x12;
-    tool.write("a", &image);
-    let push = ["push", "a", "slip"];
+fn no_push_erases_pages_with_marks_of_another_shape() {
+    let tool = Tool(folder("odd-marks"));
+    tool.two_a_page("4", 7);
+    std::fs::remove_file(tool.0.join("a.shape")).unwrap();
+    let before = tool.image("a");
+    let push = [
+        "push",
+        "a",
+        "more than is left there",
+        "--page",
+        "64",
+        "--word",
+        "8",
+    ];
     let ran = tool.ran(&push);
     assert_eq!(ran.status, Some(65), "{}", ran.err);
-    assert_eq!(tool.image("a"), image);
+    assert!(ran.err.contains("marks of another shape"), "{}", ran.err);
+    assert_eq!(tool.image("a"), before);
     assert_eq!(tool.status(&[&push[..], &["--force"]].concat()), 0);
-    assert_eq!(tool.run(&["list", "a"]).1.lines().count(), 3);
+    assert_ne!(tool.image("a"), before);
 }
 
 #[test]

@@ -58,10 +58,14 @@ impl Terminal {
         String::from_utf8_lossy(&bytes[..count]).into_owned()
     }
 
-    /// What a command prints on the terminal, if it is little.
-    pub fn output(&mut self, command: &mut Command) -> String {
+    /// What a command prints on the terminal, up to a word of its last line.
+    pub fn output(&mut self, command: &mut Command, last: &str) -> String {
         command.stdout(self.far()).stderr(Stdio::null());
-        command.status().unwrap();
-        self.read()
+        assert!(command.status().unwrap().success());
+        let mut text = String::new();
+        while !text.contains(last) {
+            text += &self.read();
+        }
+        text
     }
 }
