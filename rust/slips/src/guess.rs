@@ -6,9 +6,9 @@
 use crate::arguments::Words;
 use crate::failure::Failure;
 use crate::file::{read_shape_file, unread};
+use crate::page::{Page, is_erased};
 use crate::shape::{Numbers, options};
 use crate::show::{counted, say};
-use crate::survey::{Page, is_erased};
 use slipq::{Item, ItemState, PageState, Queue, Shape};
 use std::ops::Range;
 use std::path::Path;

@@ -1,7 +1,8 @@
 //! Answers as JSON.
 use crate::file::Stored;
+use crate::page::Page;
 use crate::show::hex;
-use crate::survey::{Page, Survey};
+use crate::survey::Survey;
 use slipq::Item;
 
 /// A text in quotes.

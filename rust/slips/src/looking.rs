@@ -4,12 +4,13 @@ use crate::failure::Failure;
 use crate::file::{self, Stored};
 use crate::json::{self, object};
 use crate::map;
+use crate::page::{note_unreadable, pages};
 use crate::refusal::refused;
 use crate::shape::Numbers;
 use crate::show::{length, note, say, shown};
 use crate::slip::Showing;
 use crate::storing::queue;
-use crate::survey::{self, Survey, note_unreadable};
+use crate::survey::Survey;
 use crate::system;
 use std::io::stdout;
 
@@ -29,7 +30,7 @@ pub fn peek(words: Words) -> Result<(), Failure> {
 }
 
 fn note_pages(stored: &mut Stored) {
-    note_unreadable(&survey::pages(&mut stored.image, stored.shape));
+    note_unreadable(&pages(&mut stored.image, stored.shape));
 }
 
 pub fn list(words: Words) -> Result<(), Failure> {

@@ -1,8 +1,9 @@
 //! A refusal of the queue in words: which limit or which page, and what to do.
 use crate::failure::Failure;
 use crate::file::Stored;
+use crate::page::pages;
 use crate::show::counted;
-use crate::survey;
+use crate::survey::ends;
 use slipq::{Error, PageState};
 
 /// What is said of a refused call on this image, as the call left it. The length is that of the slip that was to be pushed.
@@ -27,10 +28,10 @@ pub fn refused(error: Error, stored: &mut Stored, length: usize) -> Failure {
 /// A repair has been made by now, so it is the order of the pages that is wrong.
 fn corrupted(stored: &mut Stored) -> String {
     let name = stored.name.display().to_string();
-    let pages = survey::pages(&mut stored.image, stored.shape);
+    let pages = pages(&mut stored.image, stored.shape);
     let states: Vec<PageState> = pages.iter().map(|page| page.state).collect();
     let next = |page: u32| (page + 1) % states.len() as u32;
-    let what = match survey::ends(&states) {
+    let what = match ends(&states) {
         Some(_) if states.len() == 1 => {
             return "page 0 is the sole page and has slips, and there find_max_fit has no number: `slips space` has one".into();
         }

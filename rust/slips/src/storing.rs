@@ -2,11 +2,11 @@
 use crate::arguments::Words;
 use crate::failure::Failure;
 use crate::file::{self, Held, Stored};
+use crate::page::{Page, note_unreadable, pages};
 use crate::refusal::refused;
 use crate::shape::Numbers;
 use crate::show::{counted, note, numbered, say};
 use crate::slip::{self, Showing};
-use crate::survey::{self, Page, note_unreadable};
 use slipq::{ItemState, PageState, Queue};
 
 pub fn queue(stored: &mut Stored) -> Queue<'_> {
@@ -98,7 +98,7 @@ struct Change {
 
 impl Change {
     fn of(mut held: Held, force: bool) -> Change {
-        let pages = survey::pages(&mut held.stored.image, held.stored.shape);
+        let pages = pages(&mut held.stored.image, held.stored.shape);
         note_unreadable(&pages);
         Change { held, pages, force }
     }
