@@ -3,7 +3,7 @@ use crate::failure::Failure;
 use crate::file::Stored;
 use crate::page::pages;
 use crate::show::counted;
-use crate::survey::ends;
+use crate::survey::{Survey, ends};
 use slipq::{Error, PageState};
 
 /// What is said of a refused call on this image, as the call left it. The length is that of the slip that was to be pushed.
@@ -17,12 +17,22 @@ pub fn refused(error: Error, stored: &mut Stored, length: usize) -> Failure {
                 "the slip has {has}, and a page of {page} with words of {word} takes {most} at most"
             )
         }
-        Error::FullStorage => format!("{error}: pop slips, or give --overwrite"),
+        Error::FullStorage => format!("{error}: {}", room(stored)),
         Error::BufferTooSmall(needed) => format!("{error}: give --buffer {needed}"),
         Error::Corrupted => corrupted(stored),
         _ => error.to_string(),
     };
     Failure::Refused(error, says)
+}
+
+/// What makes room. A torn slip is live: where it alone fills the queue, there is nothing to pop.
+fn room(stored: &Stored) -> &'static str {
+    let survey = Survey::of(&stored.image, stored.shape);
+    match (survey.list.is_empty(), survey.pages.len()) {
+        (false, _) => "pop slips, or give --overwrite",
+        (true, 1) => "no slip waits, and `slips erase` or --overwrite frees what a torn one takes",
+        (true, _) => "no slip waits, and `slips pop` erases the pages that are finished",
+    }
 }
 
 /// A repair has been made by now, so it is the order of the pages that is wrong.

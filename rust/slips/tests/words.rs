@@ -75,6 +75,30 @@ fn a_slip_that_is_too_big_is_measured() {
 }
 
 #[test]
+fn a_full_queue_says_what_makes_room() {
+    let tool = Tool(folder("full"));
+    tool.new_image("20", "1");
+    let cut = ["push", "a", "slip", "--limit", "3"];
+    assert_eq!(tool.status(&cut), 7);
+    let ran = tool.ran(&["push", "a", "slip"]);
+    assert_eq!(ran.status, Some(3));
+    assert!(
+        ran.err.contains("no slip waits, and `slips erase`"),
+        "{}",
+        ran.err
+    );
+    assert_eq!(tool.status(&["erase", "a"]), 0);
+    tool.push(&["slip"]);
+    let ran = tool.ran(&["push", "a", "slip"]);
+    assert_eq!(ran.status, Some(3));
+    assert!(
+        ran.err.contains("pop slips, or give --overwrite"),
+        "{}",
+        ran.err
+    );
+}
+
+#[test]
 fn a_pop_that_nobody_reads_keeps_the_slip() {
     let tool = Tool(folder("unread"));
     tool.two_a_page("2", 2);
