@@ -204,6 +204,8 @@ fn reading(image: &mut [u8], given: Numbers, page: u32, word: u32) -> Option<(Sh
         end: all.start + range.end as u32 * page,
         ..all
     };
+    // more pages may be given than a queue has
+    shape.check(image.len()).ok()?;
     Some((shape, Reading::of(&pages[range])))
 }
 
