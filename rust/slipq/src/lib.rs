@@ -1,7 +1,7 @@
 //! A queue of slips on NOR flash, over a lent image: first in, first out, and whole after any power cut.
 //!
 //! The calls are those of the crate sequential-storage 8.0.2, queue without a cache, and the layout on flash is the same. The work is
-//! done by a static library that is written in Rattle and proved; this crate wraps it, and is the only place with `unsafe` code.
+//! done by a static library that is written in Rattle and proved; this crate wraps it, and is the only one that calls it.
 //!
 //! ```
 //! use slipq::{Error, Queue, Shape};

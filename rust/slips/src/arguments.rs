@@ -35,24 +35,35 @@ pub fn parse(
             None => (rest, None),
             Some((name, value)) => (name, Some(OsString::from(value))),
         };
-        let Some((name, takes_value)) = allowed.iter().find(|(known, _)| *known == name) else {
-            return usage(format!("there is no option --{name} here"));
-        };
-        if parsed.options.iter().any(|(known, _)| known == name) {
+        let option = option(name, joined, &mut words, allowed)?;
+        if parsed.has(option.0) {
             return usage(format!("--{name} is given twice"));
         }
-        let value = match (takes_value, joined) {
-            (false, None) => OsString::new(),
-            (false, Some(_)) => return usage(format!("--{name} takes no value")),
-            (true, Some(value)) => value,
-            (true, None) => match words.next() {
-                Some(value) => value,
-                None => return usage(format!("--{name} needs a value")),
-            },
-        };
-        parsed.options.push((name, value));
+        parsed.options.push(option);
     }
     Ok(parsed)
+}
+
+/// An option and its value, which is joined to it or the next word.
+fn option(
+    name: &str,
+    joined: Option<OsString>,
+    words: &mut impl Iterator<Item = OsString>,
+    allowed: &[Allowed],
+) -> Result<(&'static str, OsString), Failure> {
+    let Some((name, takes_value)) = allowed.iter().find(|(known, _)| *known == name) else {
+        return usage(format!("there is no option --{name} here"));
+    };
+    let value = match (takes_value, joined) {
+        (false, None) => Some(OsString::new()),
+        (false, Some(_)) => return usage(format!("--{name} takes no value")),
+        (true, Some(value)) => Some(value),
+        (true, None) => words.next(),
+    };
+    match value {
+        Some(value) => Ok((name, value)),
+        None => usage(format!("--{name} needs a value")),
+    }
 }
 
 fn usage<T>(says: String) -> Result<T, Failure> {
@@ -95,17 +106,20 @@ impl Words {
     }
 }
 
-/// A whole number: decimal, or hexadecimal after 0x.
+/// A whole number: decimal, with k behind it for 1024 of them, or hexadecimal after 0x.
 pub fn number<T: TryFrom<u64>>(digits: &str) -> Option<T> {
-    let (digits, radix) = match digits.strip_prefix("0x") {
-        Some(digits) => (digits, 16),
-        None => (digits, 10),
+    let (digits, radix, unit) = match digits.strip_prefix("0x").or(digits.strip_prefix("0X")) {
+        Some(digits) => (digits, 16, 1),
+        None => match digits.strip_suffix(['k', 'K']) {
+            Some(digits) => (digits, 10, 1024),
+            None => (digits, 10, 1),
+        },
     };
     if !digits.starts_with(|first: char| first.is_ascii_hexdigit()) {
         return None;
     }
     let number = u64::from_str_radix(digits, radix).ok()?;
-    T::try_from(number).ok()
+    T::try_from(number.checked_mul(unit)?).ok()
 }
 
 /// Bytes from hexadecimal digits, two a byte; blanks may stand between bytes.
@@ -167,6 +181,9 @@ mod tests {
     fn numbers() {
         assert_eq!(number("4294967295"), Some(u32::MAX));
         assert_eq!(number("0xffffffff"), Some(u32::MAX));
+        assert_eq!(number("0X10"), Some(16_u32));
+        assert_eq!(number("4k"), Some(4096_u32));
+        assert_eq!(number("2K"), Some(2048_u32));
         for wrong in [
             "",
             "-1",
@@ -177,6 +194,10 @@ mod tests {
             "0x+1",
             "ff",
             " 1",
+            "k",
+            "0x4k",
+            "4194304k",
+            "0x0X1",
         ] {
             assert_eq!(number::<u32>(wrong), None, "{wrong:?}");
         }

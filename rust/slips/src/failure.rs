@@ -6,12 +6,16 @@ use slipq::{Error, Shape, ShapeError};
 pub enum Failure {
     /// no slip waits
     Empty,
-    /// the call was refused
-    Refused(Error),
-    /// the shape was refused
-    Shape(Shape, ShapeError),
+    /// no slip is found, and the file is left as it was
+    Kept(String),
+    /// the call was refused, and why
+    Refused(Error, String),
+    /// the shape was refused, and why
+    Shape(Shape, ShapeError, String),
     /// the command line is wrong
     Usage(String),
+    /// the command line contradicts a shape file
+    Contradicts(String),
     /// there is no shape, or a shape file that cannot be understood
     NoShape(String),
     /// a file cannot be read
@@ -24,28 +28,31 @@ pub enum Failure {
     Write(String),
     /// whoever read the answers has enough
     Closed,
+    /// Ctrl-C
+    Stopped,
 }
 
 impl Failure {
     /// Document 01's row for its refusals; the tool's own are 64 and more.
     pub fn status(&self) -> u8 {
         match self {
-            Failure::Empty => 1,
-            Failure::Refused(error) => error.row() as u8,
-            Failure::Shape(_, error) => error.row() as u8,
-            Failure::Usage(_) => 64,
+            Failure::Empty | Failure::Kept(_) => 1,
+            Failure::Refused(error, _) => error.row() as u8,
+            Failure::Shape(_, error, _) => error.row() as u8,
+            Failure::Usage(_) | Failure::Contradicts(_) => 64,
             Failure::NoShape(_) => 65,
             Failure::Read(_) => 66,
             Failure::Fault(_) => 70,
             Failure::Exists(_) => 73,
             Failure::Write(_) | Failure::Closed => 74,
+            // as a shell says of a program that SIGINT ended
+            Failure::Stopped => 130,
         }
     }
-}
 
-impl From<Error> for Failure {
-    fn from(error: Error) -> Failure {
-        Failure::Refused(error)
+    /// Whether there is nothing to say: nobody asked for more.
+    pub fn is_quiet(&self) -> bool {
+        matches!(self, Failure::Closed | Failure::Stopped)
     }
 }
 
@@ -54,19 +61,22 @@ impl Display for Failure {
         match self {
             Failure::Closed => f.write_str("nobody reads the answers"),
             Failure::Empty => f.write_str("empty: no slip waits"),
-            Failure::Refused(error) => write!(f, "{error:?}: {error}"),
-            Failure::Shape(shape, error) => {
+            Failure::Stopped => f.write_str("stopped"),
+            Failure::Refused(error, says) => write!(f, "{error:?}: {says}"),
+            Failure::Shape(shape, error, says) => {
                 let Shape {
                     start,
                     end,
                     page,
                     word,
                 } = shape;
-                write!(f, "{error:?}: {error} ")?;
+                write!(f, "{error:?}: {says} ")?;
                 write!(f, "(start {start}, end {end}, page {page}, word {word})")
             }
             Failure::Usage(says) => write!(f, "{says}; `slips help` says more"),
-            Failure::NoShape(says)
+            Failure::Kept(says)
+            | Failure::Contradicts(says)
+            | Failure::NoShape(says)
             | Failure::Read(says)
             | Failure::Fault(says)
             | Failure::Exists(says)

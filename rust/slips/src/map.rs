@@ -1,16 +1,21 @@
-//! A picture of the pages.
-use crate::show::{counted, shown};
-use slipq::{Item, ItemState, PageState, Queue};
+//! A picture of the pages, in 80 columns.
+use crate::file::Stored;
+use crate::page::{Page, is_erased};
+use crate::show::{counted, cut, shown};
+use crate::survey::Survey;
+use slipq::{Item, ItemState, PageState};
 use std::fmt::Write;
 
 /// The most characters that a page's data take.
 const WIDTH: usize = 64;
+const COLUMNS: usize = 80;
 
 const LEGEND: &str = "\
 W w  a slip that waits: header, payload     |  a mark that is set
-P p  popped                                 :  a mark that is not set
-T t  torn                                   .  free
-?    no header                              !  behind the free spot and not erased";
+N n  whole, but not on the list             :  a mark that is not set
+P p  popped                                 .  free
+T t  torn                                   !  behind the free spot, not erased
+?    no header";
 
 /// What stands in a word of a page's data; of the words that share a character the largest is shown.
 #[derive(Clone, Copy, PartialEq, Eq, PartialOrd, Ord)]
@@ -26,6 +31,7 @@ enum Cell {
 enum Kind {
     Popped,
     Torn,
+    NotListed,
     Waits,
 }
 
@@ -35,12 +41,8 @@ impl Cell {
             Cell::Free => '.',
             Cell::Dirty => '!',
             Cell::NoHeader => '?',
-            Cell::Payload(Kind::Popped) => 'p',
-            Cell::Payload(Kind::Torn) => 't',
-            Cell::Payload(Kind::Waits) => 'w',
-            Cell::Header(Kind::Popped) => 'P',
-            Cell::Header(Kind::Torn) => 'T',
-            Cell::Header(Kind::Waits) => 'W',
+            Cell::Payload(kind) => kind.letter().to_ascii_lowercase(),
+            Cell::Header(kind) => kind.letter(),
         }
     }
 
@@ -48,147 +50,217 @@ impl Cell {
         match self {
             Cell::Free => "",
             Cell::Dirty | Cell::NoHeader => "\x1b[33m",
-            Cell::Payload(Kind::Popped) | Cell::Header(Kind::Popped) => "\x1b[90m",
-            Cell::Payload(Kind::Torn) | Cell::Header(Kind::Torn) => "\x1b[31m",
-            Cell::Payload(Kind::Waits) | Cell::Header(Kind::Waits) => "\x1b[32m",
+            Cell::Payload(kind) | Cell::Header(kind) => kind.colour(),
         }
     }
 }
 
-/// The whole picture. `with_items` adds a line for each slip.
-pub fn picture(queue: &Queue, with_items: bool, in_hex: bool, in_colour: bool) -> String {
-    let shape = queue.shape();
-    let words = ((shape.page - 2 * shape.word) / shape.word) as usize;
-    let per_character = words.div_ceil(WIDTH);
-    let mut text = format!(
-        "{} of {} bytes, words of {}, addresses {} to {}; one character: {} bytes\n\n",
-        counted(shape.pages() as usize, "page", "pages"),
-        shape.page,
-        shape.word,
-        shape.start,
-        shape.end - 1,
-        per_character * shape.word as usize,
-    );
-    let mut totals = [0; 3];
-    for page in 0..shape.pages() {
-        let (items, free) = {
-            let mut items = queue.items(page);
-            let all: Vec<Item> = items.by_ref().collect();
-            (all, items.address())
-        };
-        let count = |state| items.iter().filter(|item| item.state == state).count();
-        let counts = [ItemState::Waits, ItemState::Popped, ItemState::Torn].map(count);
-        let state = queue.page_state(page);
-        let first = shape.start + page * shape.page;
-        let left = first + shape.page - shape.word - free;
-        let [waiting, popped, torn] = counts;
-        // writing to a string does not fail
+impl Kind {
+    fn letter(self) -> char {
+        match self {
+            Kind::Popped => 'P',
+            Kind::Torn => 'T',
+            Kind::NotListed => 'N',
+            Kind::Waits => 'W',
+        }
+    }
+
+    fn colour(self) -> &'static str {
+        match self {
+            Kind::Popped => "\x1b[90m",
+            Kind::Torn => "\x1b[31m",
+            Kind::NotListed => "\x1b[35m",
+            Kind::Waits => "\x1b[32m",
+        }
+    }
+}
+
+pub struct Picture<'a> {
+    pub stored: &'a Stored,
+    pub survey: &'a Survey,
+    /// a line for each slip too
+    pub with_items: bool,
+    pub in_hex: bool,
+    pub in_colour: bool,
+}
+
+// writing to a string does not fail, so the answers of `writeln!` are dropped
+impl Picture<'_> {
+    pub fn text(&self) -> String {
+        let shape = self.survey.shape;
+        let mut text = format!(
+            "{}: {} of {} bytes, words of {}, addresses {} to {}\none character: {} bytes\n\n",
+            self.stored.name.display(),
+            counted(shape.pages() as usize, "page", "pages"),
+            shape.page,
+            shape.word,
+            shape.start,
+            shape.end - 1,
+            self.words_per_character() * shape.word as usize,
+        );
+        for page in &self.survey.pages {
+            self.page(&mut text, page);
+        }
+        let count = |state| self.survey.pages.iter().map(|page| page.count(state)).sum();
+        let [waiting, popped, torn]: [usize; 3] =
+            [ItemState::Waits, ItemState::Popped, ItemState::Torn].map(count);
+        let listed = self.survey.list.len();
         let _ = writeln!(
             text,
-            "page {page} at {first}, {state}: {waiting} waiting, {popped} popped, {torn} torn, {left} bytes free"
+            "\nall pages: {waiting} waiting, {listed} of them on the list; {popped} popped, {torn} torn\n\n{LEGEND}"
         );
-        let (start_mark, end_mark) = match state {
+        text
+    }
+
+    fn words_per_character(&self) -> usize {
+        let shape = self.survey.shape;
+        let words = ((shape.page - 2 * shape.word) / shape.word) as usize;
+        words.div_ceil(WIDTH)
+    }
+
+    fn page(&self, text: &mut String, page: &Page) {
+        let (head, tail) = self.heading(page);
+        let is_long = head.len() + 1 + tail.len() > COLUMNS;
+        let between = if is_long { "\n    " } else { " " };
+        let _ = writeln!(text, "{head}{between}{tail}");
+        let (start_mark, end_mark) = match page.state {
             PageState::Open => (':', ':'),
             PageState::PartialOpen => ('|', ':'),
             PageState::Closed => ('|', '|'),
             PageState::Corrupted => (':', '|'),
         };
-        let cells = cells(queue, page, &items, free);
         let _ = write!(text, "  {start_mark}");
-        for cells in cells.chunks(per_character) {
+        for cells in self.cells(page).chunks(self.words_per_character()) {
             let cell = cells.iter().max().copied().unwrap_or(Cell::Free);
             match cell.colour() {
-                colour if in_colour && !colour.is_empty() => {
+                colour if self.in_colour && !colour.is_empty() => {
                     let _ = write!(text, "{colour}{}\x1b[0m", cell.letter());
                 }
                 _ => text.push(cell.letter()),
             }
         }
         let _ = writeln!(text, "{end_mark}");
-        if with_items {
-            for item in &items {
-                let payload = &queue.image()[item.payload as usize..][..item.length as usize];
-                let _ = writeln!(
-                    text,
-                    "    at {}: {} bytes, {:6}  {}",
-                    item.address,
-                    item.length,
-                    item.state,
-                    shown(payload, in_hex)
-                );
-            }
-        }
-        for (total, count) in totals.iter_mut().zip(counts) {
-            *total += count;
+        for item in page.items.iter().filter(|_| self.with_items) {
+            let _ = writeln!(text, "{}", self.item(item));
         }
     }
-    let [waiting, popped, torn] = totals;
-    let _ = writeln!(
-        text,
-        "\nall pages: {waiting} waiting, {popped} popped, {torn} torn\n\n{LEGEND}"
-    );
-    text
-}
 
-/// The words of a page's data, the marks left out.
-fn cells(queue: &Queue, page: u32, items: &[Item], free: u32) -> Vec<Cell> {
-    let shape = queue.shape();
-    let word = shape.word as usize;
-    let data_start = (shape.start + page * shape.page + shape.word) as usize;
-    let data_len = shape.page as usize - 2 * word;
-    let data = &queue.image()[data_start..][..data_len];
-    let mut cells: Vec<Cell> = data
-        .chunks(word)
-        .enumerate()
-        .map(|(index, bytes)| {
-            if data_start + index * word < free as usize {
+    /// What is said of a page, in two parts.
+    fn heading(&self, page: &Page) -> (String, String) {
+        let mut head = format!("page {} at {}, {}", page.number, page.address, page.state);
+        if let Some((oldest, current)) = self.survey.ends {
+            head += if page.number == oldest {
+                ", oldest"
+            } else {
+                ""
+            };
+            head += if page.number == current {
+                ", current"
+            } else {
+                ""
+            };
+        }
+        let off_list = match self.survey.off_list(page) {
+            0 => String::new(),
+            count => format!(" ({count} not on the list)"),
+        };
+        let tail = format!(
+            "{} waiting{off_list}, {} popped, {} torn, {} free",
+            page.count(ItemState::Waits),
+            page.count(ItemState::Popped),
+            page.count(ItemState::Torn),
+            counted(page.left(self.survey.shape) as usize, "byte", "bytes"),
+        );
+        (head + ":", tail)
+    }
+
+    fn item(&self, item: &Item) -> String {
+        let line = format!(
+            "    at {}: {}, {:6}  {}",
+            item.address,
+            counted(item.length as usize, "byte", "bytes"),
+            item.state,
+            shown(self.stored.payload(item), self.in_hex)
+        );
+        cut(&line, COLUMNS)
+    }
+
+    /// The words of a page's data, the marks left out.
+    fn cells(&self, page: &Page) -> Vec<Cell> {
+        let shape = self.survey.shape;
+        let word = shape.word as usize;
+        let data_start = (page.address + shape.word) as usize;
+        let data_len = shape.page as usize - 2 * word;
+        let data = &self.stored.image[data_start..][..data_len];
+        let empty = |(index, bytes): (usize, &[u8])| {
+            if data_start + index * word < page.free as usize {
                 Cell::NoHeader
-            } else if bytes.iter().all(|byte| *byte == 0xff) {
+            } else if is_erased(bytes) {
                 Cell::Free
             } else {
                 Cell::Dirty
             }
-        })
-        .collect();
-    let index = |address: u32| (address as usize - data_start) / word;
-    for item in items {
-        let kind = match item.state {
-            ItemState::Waits => Kind::Waits,
-            ItemState::Popped => Kind::Popped,
-            ItemState::Torn => Kind::Torn,
         };
-        let (header, payload) = (index(item.address), index(item.payload));
-        let payload_words = (item.length as usize).div_ceil(word);
-        cells[header..payload].fill(Cell::Header(kind));
-        cells[payload..payload + payload_words].fill(Cell::Payload(kind));
+        let mut cells: Vec<Cell> = data.chunks(word).enumerate().map(empty).collect();
+        let index = |address: u32| (address as usize - data_start) / word;
+        for item in &page.items {
+            let kind = match item.state {
+                ItemState::Waits if self.survey.is_on_list(item) => Kind::Waits,
+                ItemState::Waits => Kind::NotListed,
+                ItemState::Popped => Kind::Popped,
+                ItemState::Torn => Kind::Torn,
+            };
+            let (header, payload) = (index(item.address), index(item.payload));
+            let payload_words = (item.length as usize).div_ceil(word);
+            cells[header..payload].fill(Cell::Header(kind));
+            cells[payload..payload + payload_words].fill(Cell::Payload(kind));
+        }
+        cells
     }
-    cells
 }
 
 #[cfg(test)]
 mod tests {
     use super::*;
-    use slipq::{Error, Shape};
+    use slipq::{Error, Queue, Shape};
+
+    fn text(image: Vec<u8>, shape: Shape) -> String {
+        let stored = Stored {
+            name: "a".into(),
+            image,
+            shape,
+        };
+        let picture = Picture {
+            survey: &Survey::of(&stored.image, shape),
+            stored: &stored,
+            with_items: true,
+            in_hex: false,
+            in_colour: false,
+        };
+        picture.text()
+    }
 
     #[test]
     fn a_page_of_each_kind() {
-        let mut image = [0xff; 160];
-        let mut queue = Queue::new(&mut image, Shape::of(2, 80, 4)).unwrap();
+        let shape = Shape::of(2, 80, 4);
+        let mut image = vec![0xff; 160];
+        let mut queue = Queue::new(&mut image, shape).unwrap();
         queue.push(b"one", false).unwrap();
         queue.push(b"three", false).unwrap();
         queue.pop(&mut [0; 80]).unwrap();
         assert_eq!(queue.push_limited(b"cut", false, 1), Err(Error::Cut));
         assert_eq!(queue.push_limited(b"torn here", false, 4), Err(Error::Cut));
         image[150] = 0;
-        let queue = Queue::new(&mut image, Shape::of(2, 80, 4)).unwrap();
-        let text = picture(&queue, true, false, false);
+        let text = text(image, shape);
         let lines: Vec<&str> = text.lines().collect();
         assert_eq!(
-            lines[..9],
+            lines[..11],
             [
-                "2 pages of 80 bytes, words of 4, addresses 0 to 159; one character: 4 bytes",
+                "a: 2 pages of 80 bytes, words of 4, addresses 0 to 159",
+                "one character: 4 bytes",
                 "",
-                "page 0 at 0, partial: 1 waiting, 1 popped, 1 torn, 20 bytes free",
+                "page 0 at 0, partial, oldest, current:",
+                "    1 waiting, 1 popped, 1 torn, 20 bytes free",
                 "  |PPpWWww?TTttt.....:",
                 "    at 4: 3 bytes, popped  \"one\"",
                 "    at 16: 5 bytes, waits   \"three\"",

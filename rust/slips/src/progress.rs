@@ -1,9 +1,11 @@
 //! One line that says how far a long run has come: rewritten in place on a terminal, otherwise a new line now and then.
-use std::io::{IsTerminal, Write, stderr};
+use crate::show::cut;
+use crate::system::{columns, is_screen};
+use std::io::{Write, stderr};
 use std::time::{Duration, Instant};
 
 pub struct Progress {
-    is_terminal: bool,
+    is_screen: bool,
     last: Instant,
     every: Duration,
     /// whether a line stands on the terminal that has to be wiped
@@ -12,26 +14,26 @@ pub struct Progress {
 
 impl Progress {
     pub fn new() -> Progress {
-        let is_terminal = stderr().is_terminal();
-        let seconds = if is_terminal { 0.1 } else { 10.0 };
+        let is_screen = is_screen(&stderr());
+        let seconds = if is_screen { 0.1 } else { 10.0 };
         Progress {
-            is_terminal,
+            is_screen,
             last: Instant::now(),
             every: Duration::from_secs_f64(seconds),
             is_shown: false,
         }
     }
 
-    /// Shows a line, if it is time.
+    /// Shows a line, if it is time. On a terminal it is cut, since one that goes on in the next row cannot be wiped.
     pub fn show(&mut self, line: impl FnOnce() -> String) {
         if self.last.elapsed() < self.every {
             return;
         }
         self.last = Instant::now();
         // progress that cannot be shown is no reason to stop
-        let _ = if self.is_terminal {
+        let _ = if self.is_screen {
             self.is_shown = true;
-            write!(stderr(), "\r\x1b[K{}", line())
+            write!(stderr(), "\r\x1b[K{}", cut(&line(), columns() - 1))
         } else {
             writeln!(stderr(), "{}", line())
         };

@@ -1,44 +1,9 @@
 //! The tool as a user runs it: what it prints, its exit status, and what is left in the file.
+mod common;
+
+use common::{Tool, folder};
 use std::fs;
-use std::path::{Path, PathBuf};
-use std::process::{Command, Output};
-
-/// A folder of its own for a test.
-fn folder(name: &str) -> PathBuf {
-    let folder = Path::new(env!("CARGO_TARGET_TMPDIR")).join(name);
-    let _ = fs::remove_dir_all(&folder);
-    fs::create_dir_all(&folder).unwrap();
-    folder
-}
-
-struct Tool(PathBuf);
-
-impl Tool {
-    fn output(&self, words: &[&str]) -> Output {
-        let mut tool = Command::new(env!("CARGO_BIN_EXE_slips"));
-        tool.current_dir(&self.0).args(words).output().unwrap()
-    }
-
-    /// The exit status, and what was printed.
-    fn run(&self, words: &[&str]) -> (i32, String) {
-        let output = self.output(words);
-        let text = String::from_utf8(output.stdout).unwrap();
-        (output.status.code().unwrap(), text)
-    }
-
-    fn status(&self, words: &[&str]) -> i32 {
-        self.run(words).0
-    }
-
-    fn image(&self, name: &str) -> Vec<u8> {
-        fs::read(self.0.join(name)).unwrap()
-    }
-
-    fn new_image(&self, page: &str, pages: &str) {
-        let words = ["new", "a", "--word", "4", "--page", page, "--pages", pages];
-        assert_eq!(self.status(&words), 0);
-    }
-}
+use std::process::Command;
 
 #[test]
 fn slips_go_in_and_come_out_in_order() {
@@ -113,7 +78,7 @@ fn each_refusal_has_its_status() {
     );
     let again = ["new", "a", "--page", "32", "--word", "4", "--pages", "1"];
     assert_eq!(tool.status(&again), 73);
-    let says = String::from_utf8(tool.output(&["list", "dump"]).stderr).unwrap();
+    let says = tool.ran(&["list", "dump"]).err;
     assert_eq!(
         says,
         "slips: dump: the page size is not known: give --page, or write dump.shape\n"
