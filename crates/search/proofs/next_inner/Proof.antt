@@ -26,65 +26,95 @@ abbrev μ-loop : tie.MeasureT-loop
 μ-loop image₀ buffer₀ g oldest clears budget₀ stand₀ turns₀ image buffer budget stand turns = turns
 
 mul-turns : tie.Need-mul-turns Inv-loop μ-loop
-mul-turns c = omega (arith, c .before .before .before .pre .0 .good .few)
+mul-turns c =
+    let pre-0-good-few = c .before .before .before .pre .0 .good .few in
+    omega (arith, pre-0-good-few)
 
 loop-holds : tie.Need-loop-holds Inv-loop μ-loop
-loop-holds c = (refl, refl, c .before .before .before .pre .1, λ o e r x h. h)
+loop-holds c =
+    let pre = c .before .before .before .pre in
+    (refl, refl, pre .1, λ o e r x h. h)
 
 take-turn-requires : tie.Need-take-turn-requires Inv-loop μ-loop
-take-turn-requires c κs = (
-  (rw (c .before .before .before .loop .inv .0) (c .before .before .before .before .before .before .before .pre .0)),
-  c .before .before .before .loop .inv .2,
-)
+take-turn-requires c κs =
+    let pre = c .before .before .before .before .before .before .before .pre in
+    let loop = c .before .before .before .loop in (
+      (rw (loop .inv .0) (pre .0)),
+      loop .inv .2,
+    )
 
 same-length : tie.Need-same-length Inv-loop μ-loop
-same-length c = c .before .before .before .before .before .before .take-turn .kept .0
-    ∙ c .before .before .before .before .before .before .before .before .before .before .loop .inv .0
+same-length c =
+    let loop = c .before .before .before .before .before .before .before .before .before .before .loop in
+    let take-turn = c .before .before .before .before .before .before .take-turn in
+    take-turn .kept .0
+    ∙ loop .inv .0
 
 same-length-2 : tie.Need-same-length-2 Inv-loop μ-loop
-same-length-2 c = c .before .before .before .before .before .before .take-turn .kept .1 .0
-    ∙ c .before .before .before .before .before .before .before .before .before .before .loop .inv .1
+same-length-2 c =
+    let loop = c .before .before .before .before .before .before .before .before .before .before .loop in
+    let take-turn = c .before .before .before .before .before .before .take-turn in
+    take-turn .kept .1 .0
+    ∙ loop .inv .1
 
 returns : tie.Need-returns Inv-loop μ-loop
 unfolding nextStep
-returns c = record {
-  shows = c .before .before .before .before .before .before .before .before .before .before .loop .inv .3 _ _ _ _
-      (turn-cut (c .before .before .before .before .before .before .before .before .before .before .before .before .before .before .args
-      .oldest .0) (c .before .before .before .before .before .before .before .before .before .before .before .before .before .before .args
-      .clears) (standAs (c .before .before .before .before .before .before .before .before .before .before .loop .stand))
-      (c .before .before .before .before .before .before .take-turn .ensures .shows) _ _ (omega arith)
-      (c .before .before .before .before .before .before .before .before .before .before .loop .inv .1) _ (c .if1 .taken));
-  within = tt;
-}
+returns c =
+    let args-clears = c .before .before .before .before .before .before .before .before .before .before .before .before .before .before .args .clears in
+    let args-oldest-0 = c .before .before .before .before .before .before .before .before .before .before .before .before .before .before .args .oldest .0 in
+    let loop-inv = c .before .before .before .before .before .before .before .before .before .before .loop .inv in
+    let loop-stand = c .before .before .before .before .before .before .before .before .before .before .loop .stand in
+    let take-turn-ensures-shows = c .before .before .before .before .before .before .take-turn .ensures .shows in
+    record {
+      shows = loop-inv .3 _ _ _ _
+          (turn-cut args-oldest-0 args-clears (standAs loop-stand)
+          take-turn-ensures-shows _ _ (omega arith)
+          (loop-inv .1) _ (c .if1 .taken));
+      within = tt;
+    }
 
 enum-known-turn : tie.Need-enum-known-turn Inv-loop μ-loop
 enum-known-turn c = search needs
 
 same-length-3 : tie.Need-same-length-3 Inv-loop μ-loop
-same-length-3 c = c .before .before .before .before .before .before .before .before .before .take-turn .kept .0
-    ∙ c .before .before .before .before .before .before .before .before .before .before .before .before .before .loop .inv .0
+same-length-3 c =
+    let loop = c .before .before .before .before .before .before .before .before .before .before .before .before .before .loop in
+    let take-turn = c .before .before .before .before .before .before .before .before .before .take-turn in
+    take-turn .kept .0
+    ∙ loop .inv .0
 
 same-length-4 : tie.Need-same-length-4 Inv-loop μ-loop
-same-length-4 c = c .before .before .before .before .before .before .before .before .before .take-turn .kept .1 .0
-    ∙ c .before .before .before .before .before .before .before .before .before .before .before .before .before .loop .inv .1
+same-length-4 c =
+    let loop = c .before .before .before .before .before .before .before .before .before .before .before .before .before .loop in
+    let take-turn = c .before .before .before .before .before .before .before .before .before .take-turn in
+    take-turn .kept .1 .0
+    ∙ loop .inv .1
 
 returns-2 : tie.Need-returns-2 Inv-loop μ-loop
 unfolding nextStep
-returns-2 c = record {
-  shows = c .before .before .before .before .before .before .before .before .before .before .before .before .before .loop .inv .3 _ _ _
-      _ (turn-ends (c .before .before .before .before .before .before .before .before .before .before .before .before .before .before .before
-      .before .before .args .oldest .0)
-      (c .before .before .before .before .before .before .before .before .before .before .before .before .before .before .before .before
-      .before .args .clears) (standAs
-      (c .before .before .before .before .before .before .before .before .before .before .before .before .before .loop .stand))
-      (c .before .before .before .before .before .before .before .before .before .take-turn .ensures .shows) _ _ (omega arith)
-      (c .before .before .before .before .before .before .before .before .before .before .before .before .before .loop .inv .1)
-      (c .before .before .before .if1 .left) _
-      (ap (turnAs (c .before .before .before .before .before .before .before .before .before .before .before .before .before .before .before
-      .before .before .args .g) _) (c .before .turn .given .1)));
-  within = (rw (c .before .turn .given .1) at (c .before .before .before .before .before .before .before .before .before .take-turn
-      .ensures .within));
-}
+returns-2 c =
+    let args-clears = c .before .before .before .before .before .before .before .before .before .before .before .before .before .before .before .before .before
+    .args .clears in
+    let args-g = c .before .before .before .before .before .before .before .before .before .before .before .before .before .before .before .before .before .args
+    .g in
+    let args-oldest-0 = c .before .before .before .before .before .before .before .before .before .before .before .before .before .before .before .before
+    .before .args .oldest .0 in
+    let loop-inv = c .before .before .before .before .before .before .before .before .before .before .before .before .before .loop .inv in
+    let loop-stand = c .before .before .before .before .before .before .before .before .before .before .before .before .before .loop .stand in
+    let take-turn-ensures = c .before .before .before .before .before .before .before .before .before .take-turn .ensures in
+    let if1-left = c .before .before .before .if1 .left in
+    let turn-given-1 = c .before .turn .given .1 in
+    record {
+      shows = loop-inv .3 _ _ _
+          _ (turn-ends args-oldest-0
+          args-clears (standAs
+          loop-stand)
+          (take-turn-ensures .shows) _ _ (omega arith)
+          (loop-inv .1)
+          if1-left _
+          (ap (turnAs args-g _) turn-given-1));
+      within = (rw turn-given-1 at (take-turn-ensures .within));
+    }
 
 enum-known-turn-2 : tie.Need-enum-known-turn-2 Inv-loop μ-loop
 enum-known-turn-2 c = search needs
@@ -97,19 +127,24 @@ loop-less c = omega arith
 
 loop-again : tie.Need-loop-again Inv-loop μ-loop
 loop-again c =
+    let args-clears = c .before .before .before .before .before .before .before .before .before .before .before .before .before .before .before .before .before
+    .before .args .clears in
+    let args-g = c .before .before .before .before .before .before .before .before .before .before .before .before .before .before .before .before .before
+    .before .args .g in
+    let args-oldest-0 = c .before .before .before .before .before .before .before .before .before .before .before .before .before .before .before .before
+    .before .before .args .oldest .0 in
     let l = c .before .before .before .before .before .before .before .before .before .before .before .before .before .before .loop in
-    let t = c .before .before .before .before .before .before .before .before .before .before .take-turn in (
+    let t = c .before .before .before .before .before .before .before .before .before .before .take-turn in
+    let if1-left = c .before .before .before .before .if1 .left in
+    let turn2-given-1 = c .before .before .turn2 .given .1 in (
       t .kept .0 ∙ l .inv .0,
       t .kept .1 .0 ∙ l .inv .1,
-      (rw (c .before .before .turn2 .given .1) at (t .ensures .within)),
+      (rw turn2-given-1 at (t .ensures .within)),
       λ o e r x v. l .inv .3 o e r x
-          (turn-goes (c .before .before .before .before .before .before .before .before .before .before .before .before .before .before
-          .before .before .before .before .args .oldest .0)
-          (c .before .before .before .before .before .before .before .before .before .before .before .before .before .before .before .before
-          .before .before .args .clears) (standAs (l .stand)) (t .ensures .shows) _ _ (omega arith) (l .inv .1)
-          (c .before .before .before .before .if1 .left) _
-          (ap (turnAs (c .before .before .before .before .before .before .before .before .before .before .before .before .before .before
-          .before .before .before .before .args .g) _) (c .before .before .turn2 .given .1)) v),
+          (turn-goes args-oldest-0
+          args-clears (standAs (l .stand)) (t .ensures .shows) _ _ (omega arith) (l .inv .1)
+          if1-left _
+          (ap (turnAs args-g _) turn2-given-1) v),
     )
 
 same-length-5 : tie.Need-same-length-5 Inv-loop μ-loop
@@ -121,10 +156,11 @@ same-length-6 c = c .before .loop .inv .1
 returns-3 : tie.Need-returns-3 Inv-loop μ-loop
 unfolding nextStep
 returns-3 c =
+    let args-g = c .before .before .before .before .before .args .g in
     let z : c .before .loop .turns ≡ 0 = omega arith in
     record {
       shows = c .before .loop .inv .3 _ _ _ _
-          (rw z (turns-over (c .before .before .before .before .before .args .g) (c .before .loop .budget) _ _ _
+          (rw z (turns-over args-g (c .before .loop .budget) _ _ _
           (standAs (c .before .loop .stand)) (c .before .loop .image) (c .before .loop .buffer)));
       within = tt;
     }
