@@ -14,7 +14,7 @@ use Rattle.paper.specs.Waiting.{waiting}
 use Rattle.paper.specs.Fifo.{Power, whole, cutAfter, performed, eventsOf, imageNext, Ghost, ghostNext, Fair, Reached, fresh, further, bufferOf, Plain, added, big, noRoom, showsNone, showsNot, shows, takesNone, takesNot, takes, fitted, measured, cleared, Behaves}
 use Rattle.laws.proofs.Accepted.{accepted-is}
 use Rattle.demand1.proofs.Demand1.{demand1}
-use Rattle.fifo.proofs.Demand3.{demand3}
+use Rattle.demand3.proofs.Demand3.{demand3}
 use Rattle.demands.specs.Histories.{Lent, Form, Promised, powerOf, Played, begins, goesOn}
 use Rattle.demands.specs.Demands.{Keeps, Demand3OfCalls}
 use Rattle.demands.proofs.Contracts.{formed, whole-of, buffer-of, accepted-as, formed-whole, formed-cut}

@@ -1,0 +1,107 @@
+-- Copies to the buffer, and what reading a page's heads comes to. Assumes nothing.
+use mathlib.Core.Bool.{Bool, true, false, cond, not}
+use mathlib.Core.List.{List, [], _∷_, _++_, List·Memᴰ, List·Memᴰ·head, List·Memᴰ·tail}
+use mathlib.Core.Path.{_≡_, refl, ap, _∙_}
+use Prim.Native.Nat.{ℕ, _+_, _≤_, _<_}
+use borrow.Author.Tests.{ltb-true}
+use lib.Dec.{ltb}
+use lib.ListN.{length, take, drop}
+use lib.Seq.{take-append-le, take-take}
+use Rattle.paper.specs.declared.Geometry.{Geometry}
+use Rattle.paper.specs.Chip.{roundUp, headerSize, part, put, Event, erase, copy, imageBy, imageAfter, bufferBy, bufferAfter, Plan, plan, bind}
+use Rattle.paper.specs.Scan.{Head, payloads, present, live}
+use Rattle.paper.specs.Calls.{Met, passed, long, met, readHeads}
+use Rattle.laws.proofs.Events.{image-append, buffer-append}
+use Rattle.demand3.proofs.Events.{Avoids}
+use Rattle.demand3.proofs.Payloads.{not-present}
+use Rattle.demand3.proofs.Steady.{Keeps, Steady, rests, goes, copied}
+
+-- ---- events that are copies
+
+pub data Copies : List Event → Type 0 where
+  noCopies : Copies []
+  aCopy : {a n : ℕ} {es : List Event} → Copies es → Copies (copy a n ∷ es)
+
+pub copies-append : {es fs : List Event} → Copies es → Copies fs → Copies (es ++ fs)
+copies-append noCopies d = d
+copies-append (aCopy c) d = aCopy (copies-append c d)
+
+pub copies-image : (g : Geometry) {es : List Event} (im : List ℕ) → Copies es → imageAfter g es im ≡ im
+unfolding imageAfter imageBy
+copies-image g im noCopies = refl
+copies-image g im (aCopy c) = copies-image g im c
+
+pub copies-steady : {g : Geometry} {q : List (List ℕ)} {im : List ℕ} {es : List Event} → Keeps g q im → Copies es → Steady g q im es
+unfolding imageBy
+copies-steady K noCopies = rests K
+copies-steady K (aCopy {a} {n} c) = goes K (copied a n) (copies-steady K c)
+
+pub copies-avoid : (q : ℕ) {es : List Event} → Copies es → Avoids q es
+copies-avoid q noCopies = tt
+copies-avoid q (aCopy c) = copies-avoid q c
+
+-- copies, an erase, and more
+pub image-on : (g : Geometry) (es : List Event) (p : ℕ) (fs : List Event) (im : List ℕ) → imageAfter g es im ≡ im
+    → imageAfter g (es ++ (erase p ∷ fs)) im ≡ imageAfter g fs (imageBy g (erase p) im)
+unfolding imageAfter
+image-on g es p fs im e = image-append g es (erase p ∷ fs) im ∙ ap (λ (x : List ℕ). imageAfter g fs (imageBy g (erase p) x)) e
+
+pub buffer-on : (g : Geometry) (es : List Event) (p : ℕ) (fs : List Event) (im buf : List ℕ) → imageAfter g es im ≡ im
+    → bufferAfter g (es ++ (erase p ∷ fs)) im buf ≡ bufferAfter g fs (imageBy g (erase p) im) (bufferAfter g es im buf)
+unfolding bufferAfter bufferBy
+buffer-on g es p fs im buf e =
+    buffer-append g es (erase p ∷ fs) im buf ∙ ap (λ (x : List ℕ). bufferAfter g fs (imageBy g (erase p) x) (bufferAfter g es im buf)) e
+
+-- the last copy stands at the buffer's front
+pub last-copy : (g : Geometry) (a m n : ℕ) (im buf : List ℕ) → n ≤ m → n ≤ length (part a m im)
+    → take n (bufferAfter g (copy a m ∷ []) im buf) ≡ part a n im
+unfolding bufferAfter bufferBy put
+last-copy g a m n im buf h k = take-append-le n (part a m im) (drop (0 + length (part a m im)) buf) k ∙ take-take n m (drop a im) h
+
+-- ---- a page's heads
+
+-- the copy that reads an item
+abbrev pub reads : Geometry → Head → List Event
+reads g h = copy (h .place + headerSize g) (roundUp (g .word) (h .len)) ∷ []
+
+pub data HeadsRead (g : Geometry) (n : ℕ) (hs : List Head) (m : Plan Met) : Type 0 where
+  allPassed : (es : List Event) → m ≡ plan es passed → Copies es → payloads hs ≡ [] → HeadsRead g n hs m
+  tooSmall : (k : ℕ) (es : List Event) → m ≡ plan es (long k) → Copies es → HeadsRead g n hs m
+  gotIt : (h : Head) (es : List Event) → m ≡ plan (es ++ reads g h) (met h) → Copies es
+      → (pre post : List Head) → hs ≡ pre ++ (h ∷ post) → payloads pre ≡ [] → present h ≡ true → HeadsRead g n hs m
+
+pub heads-read : (g : Geometry) (n : ℕ) (hs : List Head) (im : List ℕ) → HeadsRead g n hs (readHeads g n hs im)
+unfolding readHeads payloads bind imageAfter imageBy
+heads-read g n [] im = allPassed [] refl noCopies refl
+heads-read g n (h ∷ hs) im = by (live h) (ltb n size) (present h) refl refl refl (heads-read g n hs im)
+  where
+    size : ℕ
+    size = roundUp (g .word) (h .len)
+
+    c : Event
+    c = copy (h .place + headerSize g) size
+
+    r : Plan Met
+    r = readHeads g n hs im
+
+    after : Plan Met → Plan Met
+    after p = plan (c ∷ p .events) (p .answer)
+
+    -- it is not live
+    dead : present h ≡ false → HeadsRead g n hs r → HeadsRead g n (h ∷ hs) r
+    dead q (allPassed es e x z) = allPassed es e x (rw q z)
+    dead q (tooSmall k es e x) = tooSmall k es e x
+    dead q (gotIt h₁ es e x pre post y i p) = gotIt h₁ es e x (h ∷ pre) post (ap (λ (l : List Head). h ∷ l) y) (rw q i) p
+
+    -- it is torn
+    torn : present h ≡ false → HeadsRead g n hs r → HeadsRead g n (h ∷ hs) (after r)
+    torn q (allPassed es e x z) = allPassed (c ∷ es) (ap after e) (aCopy x) (rw q z)
+    torn q (tooSmall k es e x) = tooSmall k (c ∷ es) (ap after e) (aCopy x)
+    torn q (gotIt h₁ es e x pre post y i p) = gotIt h₁ (c ∷ es) (ap after e) (aCopy x) (h ∷ pre) post (ap (λ (l : List Head). h ∷ l) y) (rw q i) p
+
+    by : (l s p : Bool) → live h ≡ l → ltb n size ≡ s → present h ≡ p → HeadsRead g n hs r
+        → HeadsRead g n (h ∷ hs) (cond (not (live h)) r (cond (ltb n size) (plan [] (long size)) (cond (present h) (plan (c ∷ []) (met h)) (after r))))
+    by false s p ql qs qp R = rw ql (dead (not-present h ql) R)
+    by true true p ql qs qp R = rw (ql, qs) (tooSmall size [] refl noCopies)
+    by true false true ql qs qp R = rw (ql, qs, qp) (gotIt h [] refl noCopies [] hs refl refl qp)
+    by true false false ql qs qp R = rw (ql, qs, qp) (torn qp R)

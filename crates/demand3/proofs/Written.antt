@@ -1,0 +1,213 @@
+-- The image after some of an item's words at the free spot: what the scan finds there. Assumes nothing.
+use mathlib.Core.Bool.{true}
+use mathlib.Core.List.{List, [], _∷_, _++_, append-assoc}
+use mathlib.Core.Path.{_≡_, refl, sym, ap, _∙_}
+use Prim.Native.Nat.{ℕ, _+_, _-_, _*_, _≤_, _<_}
+use native.Mathlib.Omega.{arith}
+use lib.ListN.{length, take, drop, length-append, length-drop}
+use lib.Seq.{drop-drop, drop-at, length-take-le, take-append-add, drop-append-add}
+use Rattle.paper.specs.declared.Geometry.{Geometry}
+use Rattle.paper.specs.Checksum.{dataCrc}
+use Rattle.paper.specs.Chip.{roundUp, headerSize, dataStart, dataSize, pageData, put, part, Event, imageAfter, before}
+use Rattle.paper.specs.Slip.{blank, encode, bytesOf}
+use Rattle.paper.specs.Scan.{Head, walk, pageWalk}
+use Rattle.paper.specs.Pages.{startMark, endMark}
+use Rattle.paper.specs.Calls.{itemAt}
+use Rattle.paper.specs.Fifo.{Bytes}
+use Rattle.laws.proofs.Puts.{put-at-end}
+use Rattle.laws.proofs.Rounding.{round-up-ge}
+use Rattle.checksum.proofs.Adjusted.{data-low, data-lt}
+use Rattle.demand3.proofs.Sizes.{itemSize, header-ge}
+use Rattle.demand3.proofs.Blank.{blank-take, blank-drop}
+use Rattle.demand3.proofs.Bytes.{bytes-append, bytes-drop}
+use Rattle.demand3.proofs.Ands.{ands-blank}
+use Rattle.demand3.proofs.Words.{words-prefix}
+use Rattle.demand3.proofs.Replaced.{NoneAccepted}
+use Rattle.demand3.proofs.Tails.{item-walk, half-walk}
+use Rattle.demand3.proofs.Views.{View, in-data, put-inner, page-inside, page-split}
+use Rattle.demand3.proofs.Changed.{Changed, inner-changed}
+use Rattle.demand3.proofs.Site.{Site, current, scanned, spotOf, site-in, front, split, sizes, spot-at, rest-blank, rest-bytes, withTail, Regrown}
+use Rattle.demand3.proofs.Item.{headerOf, paddedSlip, itemBytes, itemWords, length-header, length-padded, length-item, item-size, item-words, written, bytes-written, within-item, length-written, one-word}
+
+-- a slip that a push may write there
+pub record Writable {g : Geometry} {im : List ℕ} (S : Site g im) (slip : List ℕ) : Type 0 where
+  pub bytes : Bytes slip
+  pub short : length slip < 65536
+  pub room : itemSize g (length slip) ≤ length (scanned S .rest)
+
+-- the image with an item's first j words at the free spot
+abbrev pub withWords : {g : Geometry} {im : List ℕ} → Site g im → List ℕ → ℕ → List ℕ
+withWords {g} {im} S slip j = put (spotOf S) (written g slip j) im
+
+-- nothing that the current page's scan refused is accepted there in the image jm
+abbrev pub Clear : {g : Geometry} {im : List ℕ} → Site g im → List ℕ → Type 0
+Clear {g} S jm = NoneAccepted (scanned S .refused) (pageWalk g jm (current S) .heads)
+
+module _ {g : Geometry} {im : List ℕ} {S : Site g im} {slip : List ℕ} (F : Writable S slip) where
+  abbrev c : ℕ
+  c = current S
+
+  abbrev rest : List ℕ
+  rest = scanned S .rest
+
+  pos : 0 < g .word
+  pos = S .inv .good .low
+
+  spot-in : spotOf S + length (scanned S .rest) ≤ length im
+  unfolding dataStart
+  spot-in = omega (arith, spot-at S, sizes S, page-inside im (S .inv .good) c (site-in S), page-split (S .inv .good))
+
+  -- bytes from the spot on, in the page's data
+  at-spot : (jm : List ℕ) (i n : ℕ) → length (front S) + i + n ≤ dataSize g
+      → part (spotOf S + i) n jm ≡ part i n (drop (length (front S)) (pageData g jm (current S)))
+  at-spot jm i n h =
+      let f : ℕ = length (front S) in
+      let z : spotOf S + i ≡ dataStart g c + (f + i) = omega (arith, spot-at S) in
+      ap (λ (x : ℕ). part x n jm) z ∙ in-data g jm c (f + i) n (omega arith) ∙ ap (take n) (sym (drop-drop i f (pageData g jm c)))
+
+  spot-blank : (m : ℕ) → m ≤ length (scanned S .rest) → blank (take m (drop (spotOf S) im)) ≡ true
+  spot-blank m h =
+      let z : spotOf S ≡ spotOf S + 0 = omega arith in
+      let f : ℕ = length (front S) in
+      ap blank (ap (λ (x : ℕ). part x m im) z ∙ at-spot im 0 m (omega (arith, sizes S)) ∙ ap (take m) (ap (drop f) (split S) ∙ drop-at (front S) rest f refl))
+      ∙ blank-take m rest (rest-blank S)
+
+  module _ (j : ℕ) (hj : j ≤ itemWords g slip) where
+    abbrev x : List ℕ
+    x = written g slip j
+
+    pub jw : j * g .word ≤ itemSize g (length slip)
+    jw = within-item g pos slip j hj
+
+    lw : length (written g slip j) ≡ j * g .word
+    lw = length-written g pos slip j hj
+
+    pub after-words : imageAfter g (before j (itemAt g (spotOf S) slip)) im ≡ withWords S slip j
+    unfolding written
+    after-words =
+        let s : ℕ = spotOf S in
+        ap (λ (es : List Event). imageAfter g (before j es) im) (item-words g pos slip s)
+        ∙ words-prefix g (g .word) j (itemWords g slip) s (itemBytes g slip) im hj (length-item g pos slip ∙ item-size g pos slip)
+        (omega (arith, spot-in, item-size g pos slip, F .room))
+        ∙ ap (λ (bs : List ℕ). put s bs im) (ands-blank (drop s im) x (spot-blank (length x) (omega (arith, jw, lw, F .room)))
+        (omega (arith, jw, lw, F .room, length-drop s im, spot-in)) (bytes-written g pos slip j (F .bytes)))
+
+    -- what then stands from the spot on
+    pub tail-now : List ℕ
+    tail-now = written g slip j ++ drop (length (written g slip j)) (scanned S .rest)
+
+    tail-length : length tail-now ≡ length (scanned S .rest)
+    unfolding tail-now
+    tail-length = omega (arith, length-append x (drop (length x) rest), length-drop (length x) rest, lw, jw, F .room)
+
+    tail-bytes : Bytes tail-now
+    unfolding tail-now
+    tail-bytes = bytes-append x (drop (length x) rest) (bytes-written g pos slip j (F .bytes)) (bytes-drop (length x) rest (rest-bytes S))
+
+    words-changed : Changed g im (withWords S slip j) (current S) (withTail S tail-now)
+    unfolding tail-now
+    words-changed =
+        let f : ℕ = length (front S) in
+        let G = S .inv .good in
+        let fit : f + length x ≤ dataSize g = omega (arith, sizes S, lw, jw, F .room) in
+        rw (spot-at S) (inner-changed im G c (site-in S) f x (withTail S tail-now) fit (put-inner im G c (site-in S) x f fit
+        ∙ ap (λ (t : List ℕ). record { first = startMark g im c; inner = t; last = endMark g im c }) (ap (put f x) (split S) ∙ put-at-end (front S) x rest)))
+
+    -- the header is whole
+    module _ (h : headerSize g ≤ j * g .word) where
+      abbrev E : List ℕ
+      E = headerOf g slip
+
+      -- so many bytes of the payload
+      unfoldable pub paid : ℕ
+      paid = j * g .word - headerSize g
+
+      pub paid-is : headerSize g + paid ≡ j * g .word
+      unfolding paid
+      paid-is = omega arith
+
+      -- what stands behind the header
+      unfoldable pub behind : List ℕ
+      behind = take paid (paddedSlip g slip) ++ drop (headerSize g + paid) (scanned S .rest)
+
+      abbrev P : List ℕ
+      P = take paid (paddedSlip g slip)
+
+      abbrev D : List ℕ
+      D = drop (headerSize g + paid) (scanned S .rest)
+
+      length-paid : length (take paid (paddedSlip g slip)) ≡ paid
+      length-paid = length-take-le paid (paddedSlip g slip) (omega (arith, jw, paid-is, length-padded g pos slip))
+
+      written-is : written g slip j ≡ headerOf g slip ++ take paid (paddedSlip g slip)
+      unfolding written itemBytes
+      written-is =
+          let q : j * g .word ≡ length E + paid = sym paid-is ∙ ap (λ (y : ℕ). y + paid) (sym (length-header g pos slip)) in
+          ap (λ (y : ℕ). take y (E ++ paddedSlip g slip)) q ∙ take-append-add E (paddedSlip g slip) paid
+
+      tail-is : tail-now ≡ headerOf g slip ++ behind
+      unfolding tail-now behind
+      tail-is = ap (λ (y : ℕ). x ++ drop y rest) (lw ∙ sym paid-is) ∙ ap (λ (y : List ℕ). y ++ D) written-is ∙ append-assoc E P D
+
+      behind-room : roundUp (g .word) (length slip) ≤ length behind
+      unfolding behind
+      behind-room = omega (arith, length-append P D, length-paid, length-drop (headerSize g + paid) rest, jw, paid-is, F .room)
+
+      behind-blank : blank (drop (roundUp (g .word) (length slip)) behind) ≡ true
+      unfolding behind
+      behind-blank =
+          let u : ℕ = roundUp (g .word) (length slip) in
+          let q : u ≡ length P + (u - paid) = omega (arith, length-paid, jw, paid-is) in
+          ap (λ (y : ℕ). blank (drop y (P ++ D))) q ∙ ap blank (drop-append-add P D (u - paid))
+          ∙ blank-drop (u - paid) D (blank-drop (headerSize g + paid) rest (rest-blank S))
+
+      unfoldable pub newHead : Head
+      newHead = record { place = spotOf S; crc = dataCrc slip; len = length slip; body = take (length slip) behind }
+
+      pub item-regrown : Clear S (withWords S slip j)
+          → Regrown S (withWords S slip j) tail-now (newHead ∷ []) [] (drop (roundUp (g .word) (length slip)) behind)
+      unfolding newHead
+      item-regrown U = record {
+        long = tail-length;
+        changed = words-changed;
+        scan = ap (walk g 0 (spotOf S)) tail-is
+            ∙ item-walk g pos (spotOf S) (dataCrc slip) (length slip) behind (data-lt slip) (F .short) (data-low slip .1) behind-room behind-blank;
+        clean = behind-blank;
+        quiet = λ q. refl;
+        bytes = tail-bytes;
+        unmet = U;
+      }
+
+      -- what stands in the payload's place
+      pub stored-is : part (spotOf S + headerSize g) (length slip) (withWords S slip j) ≡ newHead .body
+      unfolding newHead
+      stored-is =
+          let n : ℕ = length slip in
+          let f : ℕ = length (front S) in
+          let d : drop (headerSize g) (drop f (front S ++ tail-now)) ≡ behind =
+          ap (drop (headerSize g)) (drop-at (front S) tail-now f refl ∙ tail-is) ∙ drop-at E behind (headerSize g) (length-header g pos slip) in
+          at-spot (withWords S slip j) (headerSize g) n (omega (arith, sizes S, round-up-ge (g .word) (length slip) pos, F .room))
+          ∙ ap (λ (v : View). part (headerSize g) n (drop f (v .inner))) (words-changed .this) ∙ ap (take n) d
+
+  -- words of 4, and only the first word of the header is there
+  module _ (w4 : g .word ≡ 4) where
+    abbrev one : 1 ≤ itemWords g slip
+    one = one-word g (S .inv .good .low) slip
+
+    half-tail : tail-now 1 one ≡ bytesOf 4 (dataCrc slip) ++ drop 4 (scanned S .rest)
+    unfolding tail-now written itemBytes encode bytesOf
+    half-tail = rw w4
+
+    pub half-regrown : Clear S (withWords S slip 1) → Regrown S (withWords S slip 1) (tail-now 1 one) [] (spotOf S ∷ []) (drop 4 (scanned S .rest))
+    half-regrown U =
+        let e = blank-drop 4 rest (rest-blank S) in
+        record {
+          long = tail-length 1 one;
+          changed = words-changed 1 one;
+          scan = ap (walk g 0 (spotOf S)) half-tail
+              ∙ half-walk g pos w4 (spotOf S) (dataCrc slip) (drop 4 rest) (data-low slip .1) (omega (arith, length-drop 4 rest, header-ge g pos, F .room)) e;
+          clean = e;
+          quiet = λ q. let k : ⊥ = omega arith in absurd k;
+          bytes = tail-bytes 1 one;
+          unmet = U;
+        }

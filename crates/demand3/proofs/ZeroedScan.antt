@@ -1,0 +1,148 @@
+-- A header whose CRC is made 0: the scan of its page. Assumes nothing.
+use mathlib.Core.Bool.{true}
+use mathlib.Core.List.{List, [], _∷_, _++_, List·Memᴰ, Memᴰ·append-left, head-eq-of-cons-eq, tail-eq-of-cons-eq}
+use mathlib.Core.Path.{_≡_, refl, sym, ap, ap₂, _∙_, subst}
+use Prim.Native.Nat.{ℕ, zero, suc, _+_, _-_, _≤_, _<_}
+use native.Mathlib.Omega.{arith}
+use lib.ListN.{length, take, drop, length-append, length-drop}
+use lib.Seq.{drop-drop}
+use Rattle.paper.specs.declared.Geometry.{Geometry}
+use Rattle.paper.specs.Chip.{headerSize, put}
+use Rattle.paper.specs.Slip.{item, look, blank, numberOf}
+use Rattle.paper.specs.Scan.{Head, Walk, onward, walk}
+use Rattle.laws.proofs.Puts.{put-at-end}
+use Rattle.demand3.proofs.Sizes.{itemSize, header-ge, header-word}
+use Rattle.demand3.proofs.Looks.{look-item, look-bad, item-look}
+use Rattle.demand3.proofs.Headers.{first-used}
+use Rattle.demand3.proofs.Courses.{Course, here, past, over, walk-step, course-of, walk-stops, course-walk}
+use Rattle.demand3.proofs.Replaced.{NoneAccepted, MayReplace, after, Front, front-of}
+
+-- a CRC of 0
+abbrev pub zeros4 : List ℕ
+zeros4 = 0 ∷ 0 ∷ 0 ∷ 0 ∷ []
+
+abbrev pub poppedHead : Head → Head
+poppedHead h = record { place = h .place; crc = 0; len = h .len; body = h .body }
+
+-- a head on a course: the course comes to it, the look accepts it, the course goes on
+pub record HeadOn (g : Geometry) (a : ℕ) (d : List ℕ) (pre : List Head) (h : Head) (post : List Head) (rs r : List ℕ) : Type 0 where
+  pub from : List ℕ
+  pub rs₁ : List ℕ
+  pub rs₂ : List ℕ
+  pub first : Course g a d pre rs₁ from
+  pub seen : look g from ≡ item (h .crc) (h .len) (h .body)
+  pub later : Course g (h .place + itemSize g (h .len)) (drop (itemSize g (h .len)) from) post rs₂ r
+  pub refused-are : rs ≡ rs₁ ++ rs₂
+  pub place-is : h .place + length from ≡ a + length d
+
+module _ (g : Geometry) (pos : 0 < g .word) where
+  pub head-on : {a : ℕ} {d : List ℕ} {hs : List Head} {rs r : List ℕ} → Course g a d hs rs r
+      → (pre : List Head) (h : Head) (post : List Head) → hs ≡ pre ++ (h ∷ post) → HeadOn g a d pre h post rs r
+  head-on here [] h post e = let z : _≡_ {A = ℕ} 0 1 = cc in absurd (omega arith)
+  head-on here (x ∷ pre) h post e = let z : _≡_ {A = ℕ} 0 1 = cc in absurd (omega arith)
+  head-on {a} {d} (past l w) pre h post e =
+      let F = head-on w pre h post e in
+      let b = look-bad g d l in
+      record {
+        from = F .from;
+        rs₁ = a ∷ F .rs₁;
+        rs₂ = F .rs₂;
+        first = past l (F .first);
+        seen = F .seen;
+        later = F .later;
+        refused-are = ap (λ (x : List ℕ). a ∷ x) (F .refused-are);
+        place-is = omega (arith, F .place-is, length-drop (g .word) d, header-word g pos, b .0);
+      }
+  head-on {a} {d} {rs = rs} {r = r} (over {c = c} {n = n} {body = body} l w) [] h post e =
+      let x : Head = record { place = a; crc = c; len = n; body = body } in
+      let R : HeadOn g a d [] x _ rs r = record { from = d; rs₁ = []; rs₂ = rs; first = here; seen = l; later = w; refused-are = refl; place-is = refl } in
+      subst (λ (y : Head). HeadOn g a d [] y post rs r) (head-eq-of-cons-eq e) (subst (λ (y : List Head). HeadOn g a d [] x y rs r) (tail-eq-of-cons-eq e) R)
+  head-on {a} {d} {rs = rs} {r = r} (over {n = n} l w) (x ∷ pre) h post e =
+      let F = head-on w pre h post (tail-eq-of-cons-eq e) in
+      subst (λ (y : Head). HeadOn g a d (y ∷ pre) h post rs r) (head-eq-of-cons-eq e)
+      (record {
+        from = F .from;
+        rs₁ = F .rs₁;
+        rs₂ = F .rs₂;
+        first = over l (F .first);
+        seen = F .seen;
+        later = F .later;
+        refused-are = F .refused-are;
+        place-is = omega (arith, F .place-is, length-drop (itemSize g n) d, look-item g d l .room);
+      })
+
+  -- ---- the bytes from a header on, with its CRC made 0
+
+  abbrev zeroed : List ℕ → List ℕ
+  zeroed d = zeros4 ++ drop 4 d
+
+  drop-zeroed : (m : ℕ) (d : List ℕ) → 4 ≤ m → drop m (zeroed d) ≡ drop m d
+  drop-zeroed m d h =
+      let z : 4 + (m - 4) ≡ m = omega arith in
+      ap (λ (k : ℕ). drop k (zeroed d)) (sym z) ∙ sym (drop-drop (m - 4) 4 (zeroed d)) ∙ drop-drop (m - 4) 4 d ∙ ap (λ (k : ℕ). drop k d) z
+
+  length-zeroed : (d : List ℕ) → 4 ≤ length d → length (zeroed d) ≡ length d
+  length-zeroed d h = omega (arith, length-drop 4 d)
+
+  look-zeroed : (d : List ℕ) {c n : ℕ} {body : List ℕ} → look g d ≡ item c n body → look g (zeroed d) ≡ item 0 n body
+  unfolding numberOf
+  look-zeroed d {c} {n} {body} e =
+      let A = look-item g d e in
+      let k = header-ge g pos in
+      item-look g (zeroed d) (record {
+        room = rw (length-zeroed d (omega (arith, A .room))) (A .room);
+        used = first-used (headerSize g) 0 (0 ∷ 0 ∷ 0 ∷ drop 4 d) (omega arith) (λ q. let z : ⊥ = omega arith in z);
+        check = A .check ∙ ap (λ (x : List ℕ). numberOf (take 2 x)) (sym (drop-zeroed 6 d (omega arith)));
+        crc-is = refl;
+        len-is = A .len-is;
+        body-is = ap (take n) (drop-zeroed (headerSize g) d (omega arith)) ∙ A .body-is;
+      })
+
+  zeroed-replaces : (d : List ℕ) → 4 ≤ length d → MayReplace d (zeroed d)
+  unfolding blank
+  zeroed-replaces d h = record { long = length-zeroed d h; ff = by }
+    where
+      by : (k : ℕ) → blank (take k (zeroed d)) ≡ true → blank (take k d) ≡ true
+      by zero e = refl
+      by (suc k) e = let z : _≡_ {A = ℕ} 0 1 = cc in absurd (omega arith)
+
+  -- ---- the scan
+
+  module _ (a : ℕ) (d : List ℕ) (pre : List Head) (h : Head) (post : List Head) (e : walk g 0 a d .heads ≡ pre ++ (h ∷ post)) where
+    abbrev W : Walk
+    W = walk g 0 a d
+
+    P : HeadOn g a d pre h post (W .refused) (W .rest)
+    P = head-on (course-of g pos a d) pre h post e
+
+    F : Front g a d pre (P .rs₁) (P .from)
+    F = front-of g pos (P .first)
+
+    four : 4 ≤ length (P .from)
+    four = omega (arith, look-item g (P .from) (P .seen) .room, header-ge g pos)
+
+    at : a + length (F .front) ≡ h .place
+    at = omega (arith, P .place-is, length-append (F .front) (P .from), ap length (F .split))
+
+    -- from the header on
+    tail-walk : walk g 0 (h .place) (zeroed (P .from)) ≡ record { heads = poppedHead h ∷ post; refused = P .rs₂; rest = W .rest }
+    unfolding onward
+    tail-walk =
+        let m : ℕ = itemSize g (h .len) in
+        let l = course-walk g pos (P .later) (walk-stops g pos a d) in
+        let z = drop-zeroed m (P .from) (omega (arith, header-ge g pos)) in
+        walk-step g pos (h .place) (zeroed (P .from)) ∙ rw (look-zeroed (P .from) (P .seen))
+        (ap (λ (w : Walk). record { heads = poppedHead h ∷ w .heads; refused = w .refused; rest = w .rest }) (ap (walk g 0 (h .place + m)) z ∙ l))
+
+    pub zeroed-walk : (i : ℕ) → a + i ≡ h .place → NoneAccepted (walk g 0 a d .refused) (walk g 0 a (put i zeros4 d) .heads)
+        → walk g 0 a (put i zeros4 d) ≡ record { heads = pre ++ (poppedHead h ∷ post); refused = walk g 0 a d .refused; rest = walk g 0 a d .rest }
+    zeroed-walk i ip U =
+        let li : i ≡ length (F .front) = omega (arith, at) in
+        let s : put i zeros4 d ≡ F .front ++ zeroed (P .from) =
+        ap₂ (λ (x : ℕ) (y : List ℕ). put x zeros4 y) li (F .split) ∙ put-at-end (F .front) zeros4 (P .from) in
+        rw s (F .again (zeroed (P .from)) (zeroed-replaces (P .from) four) (less (rw s at U))
+        ∙ ap (λ (x : ℕ). after pre (P .rs₁) (walk g 0 x (zeroed (P .from)))) at ∙ ap (after pre (P .rs₁)) tail-walk
+        ∙ ap (λ (x : List ℕ). record { heads = pre ++ (poppedHead h ∷ post); refused = x; rest = W .rest }) (sym (P .refused-are)))
+      where
+        less : {hs : List Head} → NoneAccepted (W .refused) hs → NoneAccepted (P .rs₁) hs
+        less U₀ x m n = U₀ x m (subst (λ (q : List ℕ). List·Memᴰ (x .place) q) (sym (P .refused-are)) (Memᴰ·append-left (P .rs₂) n))
