@@ -21,7 +21,7 @@ same-length-2 c = search needs
 
 returns : tie.Need-returns
 unfolding calls.peek
-returns c = rw (c .shown-by .ensures (c .before .before .before .before .before .before .before .before .before .before .before .args .g) (c .before .before .before .before .before .before .search .last .0)) (showed-under (c .before .before .before .before .before .before .before .before .before .before .before .args .b) _ (showed-turned shownBy (c .before .before .before .before .before .before .search .ensures .shows)))
+returns c = rw (c .shown-by .ensures (c .before .before .before .before .before .before .before .before .before .before .args .g) (c .before .before .before .before .before .search .last .0)) (showed-under (c .before .before .before .before .before .before .before .before .before .before .args .b) _ (showed-turned shownBy (c .before .before .before .before .before .search .ensures .shows)))
 
 pub peek-spec : {M : Type 1} → statement M
 peek-spec =
