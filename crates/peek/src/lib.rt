@@ -1,18 +1,17 @@
 // Peek and pop: what the two calls make of what the search finds. Names and order are those of the Rust's src/queue/mod.rs.
 ghost use lib.ListN.{length};
 ghost use Rattle.paper.specs.Refusals.{shownAs};
-ghost use Rattle.paper.specs.Calls.{popped};
 ghost use Rattle.paper.specs.Calls as calls;
 ghost use Rattle.chip.specs.Within.{Within};
-ghost use Rattle.chip.specs.Run.{Did, WholeShown, under};
-ghost use Rattle.search.specs.Meanings.{foundAs, FoundIn};
-ghost use Rattle.peek.specs.Shows.{Shows};
+ghost use Rattle.chip.specs.Run.{WholeShown, under};
+ghost use Rattle.search.specs.Meanings.{FoundIn};
+ghost use Rattle.peek.specs.Shows.{Shows, Pops};
 use chip::Budget;
-use chip::Spent;
 use paper::Geometry;
 use paper::Refusal;
 use paper::Shown;
 use search::Found;
+use search::Searched;
 
 // ---- the calls
 
@@ -21,34 +20,26 @@ pub fn peek(image: &mut [u8], buffer: &mut [u8], b: Budget, g: Geometry) -> Show
     requires { ⌜ Within g (length (now image)) ⌝ }
     ensures { λ r. ⌜ WholeShown g (under b (calls.peek g (now (image .entry)) (length (now (buffer .entry))))) (now (image .entry)) (now (image .exit)) (now (buffer .entry)) (now (buffer .exit)) (shownAs r) ⌝ }
 {
-    let searched = search::search(image, buffer, b, g);
-    let spent = searched.spent;
-    let found = searched.found;
-    shown_by(spent, found)
+    shown_by(search::search(image, buffer, b, g))
 }
 
-// A search that was cut stores nothing more: the first k stores of a call are those of its search and then those of the header.
 pub fn pop(image: &mut [u8], buffer: &mut [u8], b: Budget, g: Geometry) -> Shown
     requires { ⌜ Within g (length (now image)) ⌝ }
     ensures { λ r. ⌜ WholeShown g (under b (calls.pop g (now (image .entry)) (length (now (buffer .entry))))) (now (image .entry)) (now (image .exit)) (now (buffer .entry)) (now (buffer .exit)) (shownAs r) ⌝ }
 {
     let searched = search::search(image, buffer, b, g);
+    shown_by(pop_found(image, g, searched))
+}
+
+// What a call answers that came to that.
+fn shown_by(searched: Searched) -> Shown
+    ensures { λ r. ⌜ Shows searched r ⌝ }
+{
     let spent = searched.spent;
     if spent.cut {
         return Shown::Refused(Refusal::Cut);
     }
     let found = searched.found;
-    let erased = pop_found(image, spent.budget, g, found);
-    shown_by(erased, found)
-}
-
-// What a call answers that spent that and found that.
-fn shown_by(spent: Spent, found: Found) -> Shown
-    ensures { λ r. ⌜ Shows spent found r ⌝ }
-{
-    if spent.cut {
-        return Shown::Refused(Refusal::Cut);
-    }
     match found {
         Found::Nothing => Shown::Empty,
         Found::TooSmall(size) => Shown::Refused(Refusal::BufferTooSmall(size)),
@@ -58,18 +49,25 @@ fn shown_by(spent: Spent, found: Found) -> Shown
     }
 }
 
-// QueueIteratorEntry::pop, for whatever was found.
-fn pop_found(image: &mut [u8], b: Budget, g: Geometry, found: Found) -> Spent
-    requires { ⌜ FoundIn g (length (now image)) found ⌝ }
-    ensures { λ r. ⌜ Did g b (popped g (foundAs g (now (image .entry)) found)) (now (image .entry)) (now (image .exit)) r ⌝ }
+// QueueIteratorEntry::pop, for whatever was found. A search that was cut stores nothing more: the first k stores of a call are those of its
+// search and then those of the header.
+fn pop_found(image: &mut [u8], g: Geometry, searched: Searched) -> Searched
+    requires { ⌜ FoundIn g (length (now image)) (searched .found) ⌝ }
+    ensures { λ r. ⌜ Pops g searched (now (image .entry)) (now (image .exit)) r ⌝ }
 {
+    let spent = searched.spent;
+    if spent.cut {
+        return searched;
+    }
+    let found = searched.found;
     let Found::Present(item) = found else {
-        return Spent {
-            cut: false,
-            budget: b,
-        };
+        return searched;
     };
     let header = item.header;
     let address = item.address;
-    header.erase_data(image, b, g, address)
+    let erased = header.erase_data(image, spent.budget, g, address);
+    Searched {
+        spent: erased,
+        found,
+    }
 }

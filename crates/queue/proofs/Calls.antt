@@ -1,4 +1,4 @@
--- A call on any shape, under a budget: refused with the shape, or what the call promises on the geometry that was accepted. Assumes nothing.
+-- A call on any shape, under a budget: refused with the shape, or what the call on the accepted geometry promises. Assumes nothing.
 use mathlib.Core.Path.{_≡_, refl, sym, _∙_}
 use mathlib.Core.List.{List, []}
 use Prim.Native.Nat.{ℕ}
@@ -30,7 +30,8 @@ module _ (s : Shape) (im : List ℕ) (c : Call) {k : Checked} (h : Checks (lengt
   accepted-as g q = rw (sym (h .answer) ∙ q)
 
   pub shows-refused : (x : Refusal) → k ≡ Refused x → (b : Budget) (d : List ℕ) → ShowsUnder b s c im im d d (refused x)
-  shows-refused x q b d = rw (refused-is x q) (showed-under-done b (plan [] (refused x)) (showed-none (geometryOf s) b im (refused x) d) refl)
+  shows-refused x q b d =
+      rw (refused-is x q) (showed-under-done b (plan [] (refused x)) (showed-none (geometryOf s) b im (refused x) d) refl)
 
   pub answers-refused : (x : Refusal) → k ≡ Refused x → (b : Budget) → AnswersUnder b s c im im (refused x)
   answers-refused x q b = shows-refused x q b [] .whole

@@ -8,9 +8,7 @@ use Rattle.peek.proofs.peek.Statement.{statement}
 use Rattle.peek.proofs.peek.Tie as tie
 
 search-requires : tie.Need-search-requires
-search-requires c κs =
-    let pre = c .before .before .before .before .pre in
-    pre
+search-requires c κs = c .before .before .before .before .pre
 
 shown-by-requires : tie.Need-shown-by-requires
 shown-by-requires c κs = search needs
@@ -23,11 +21,7 @@ same-length-2 c = search needs
 
 returns : tie.Need-returns
 unfolding calls.peek
-returns c =
-    let args = c .before .before .before .before .before .before .before .before .before .before .before .args in
-    let the-search = c .before .before .before .before .before .before .search in
-    rw (c .shown-by .ensures (args .g) (the-search .last .0))
-    (showed-under (args .b) _ (showed-turned shownBy (the-search .ensures .shows)))
+returns c = rw (c .shown-by .ensures (c .before .before .before .before .before .before .before .before .before .before .args .g) (c .before .before .before .before .before .search .last .0)) (showed-under (c .before .before .before .before .before .before .before .before .before .before .args .b) _ (showed-turned shownBy (c .before .before .before .before .before .search .ensures .shows)))
 
 pub peek-spec : {M : Type 1} → statement M
 peek-spec =

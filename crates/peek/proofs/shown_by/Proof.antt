@@ -15,8 +15,8 @@ enum-known-found c = search needs
 enum-known-found-2 : tie.Need-enum-known-found-2
 enum-known-found-2 c = search needs
 
-cast-t9 : tie.Need-cast-t9
-cast-t9 c = search needs
+cast-t10 : tie.Need-cast-t10
+cast-t10 c = search needs
 
 enum-told-2 : tie.Need-enum-told-2
 enum-told-2 c = search needs
@@ -51,7 +51,7 @@ shown-by-spec =
     enum-told
     enum-known-found
     enum-known-found-2
-    cast-t9
+    cast-t10
     enum-told-2
     enum-told-3
     returns-2
