@@ -8,7 +8,9 @@ use Rattle.peek.proofs.peek.Statement.{statement}
 use Rattle.peek.proofs.peek.Tie as tie
 
 search-requires : tie.Need-search-requires
-search-requires c κs = c .before .before .before .before .pre
+search-requires c κs =
+    let pre = c .before .before .before .before .pre in
+    pre
 
 shown-by-requires : tie.Need-shown-by-requires
 shown-by-requires c κs = search needs
@@ -21,7 +23,11 @@ same-length-2 c = search needs
 
 returns : tie.Need-returns
 unfolding calls.peek
-returns c = rw (c .shown-by .ensures (c .before .before .before .before .before .before .before .before .before .before .args .g) (c .before .before .before .before .before .search .last .0)) (showed-under (c .before .before .before .before .before .before .before .before .before .before .args .b) _ (showed-turned shownBy (c .before .before .before .before .before .search .ensures .shows)))
+returns c =
+    let args = c .before .before .before .before .before .before .before .before .before .before .args in
+    let the-search = c .before .before .before .before .before .search in
+    rw (c .shown-by .ensures (args .g) (the-search .last .0))
+    (showed-under (args .b) _ (showed-turned shownBy (the-search .ensures .shows)))
 
 pub peek-spec : {M : Type 1} → statement M
 peek-spec =

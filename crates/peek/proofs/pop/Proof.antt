@@ -6,7 +6,9 @@ use Rattle.peek.proofs.pop.Statement.{statement}
 use Rattle.peek.proofs.pop.Tie as tie
 
 search-requires : tie.Need-search-requires
-search-requires c κs = c .before .before .before .before .pre
+search-requires c κs =
+    let pre = c .before .before .before .before .pre in
+    pre
 
 pop-found-requires : tie.Need-pop-found-requires
 pop-found-requires c κs = search needs
@@ -22,7 +24,11 @@ same-length-2 c = search needs
 
 returns : tie.Need-returns
 unfolding calls.pop
-returns c = rw (c .shown-by .ensures (c .before .before .before .before .before .before .before .before .before .before .before .before .before .before .args .g) (c .before .before .before .before .before .before .before .before .before .search .last .0)) (search-popped (c .before .before .before .before .before .before .before .before .before .before .before .before .before .before .args .b) (c .before .before .before .before .before .before .before .before .before .search .ensures .shows) (c .before .before .before .pop-found .ensures))
+returns c =
+    let args = c .before .before .before .before .before .before .before .before .before .before .before .before .before .before .args in
+    let the-search = c .before .before .before .before .before .before .before .before .before .search in
+    let pop-found = c .before .before .before .pop-found in
+    rw (c .shown-by .ensures (args .g) (the-search .last .0)) (search-popped (args .b) (the-search .ensures .shows) (pop-found .ensures))
 
 pub pop-spec : {M : Type 1} → statement M
 pop-spec =

@@ -16,18 +16,31 @@ enum-known-found c = search needs
 
 returns-2 : tie.Need-returns-2
 returns-2 c =
-    let n = not-present (c .before .before .before .before .args .g) (c .before .before .before .before .args .image .now) (c .before .before .before .before .args .searched .found) (c .match .keys2) in
-    record { cut = λ t. (refl, refl); done = λ f. ((rw (n, ← uncut (c .before .before .before .before .args .searched .spent) f) (did-none (c .before .before .before .before .args .g) (c .before .before .before .before .args .searched .spent .budget) (c .before .before .before .before .args .image .now))), refl) }
+    let args = c .before .before .before .before .args in
+    let n = not-present (args .g) (args .image .now) (args .searched .found) (c .match .keys2) in
+    record {
+      cut = λ t. (refl, refl);
+      done =
+          λ f. ((rw (n, ← uncut (args .searched .spent) f) (did-none (args .g) (args .searched .spent .budget) (args .image .now))), refl);
+    }
 
 erase-data-requires : tie.Need-erase-data-requires
-erase-data-requires c κs = rw (c .before .before .before .before .found .given .1) at (c .before .before .before .before .before .before .before .before .before .pre)
+erase-data-requires c κs =
+    let pre = c .before .before .before .before .before .before .before .before .before .pre in
+    let found = c .before .before .before .before .found in
+    rw (found .given .1) at pre
 
 same-length : tie.Need-same-length
 same-length c = search needs
 
 returns-3 : tie.Need-returns-3
 returns-3 c =
-    record { cut = λ t. absurd (false≢true (sym (c .before .before .before .before .before .before .before .before .before .if1 .left) ∙ t)); done = λ f. ((rw (c .before .before .before .before .before .before .before .found .given .1) (c .before .before .erase-data .ensures)), sym (c .before .before .before .before .before .before .before .found .given .1)) }
+    let if1 = c .before .before .before .before .before .before .before .before .before .if1 in
+    let found = c .before .before .before .before .before .before .before .found in
+    record {
+      cut = λ t. absurd (false≢true (sym (if1 .left) ∙ t));
+      done = λ f. ((rw (found .given .1) (c .before .before .erase-data .ensures)), sym (found .given .1));
+    }
 
 pub pop-found-spec : {M : Type 1} → statement M
 pop-found-spec =
