@@ -8,6 +8,9 @@ mod face;
 mod progress;
 mod rules;
 mod shrink;
+#[path = "../slips/src/system.rs"]
+#[allow(dead_code)] // of what the tool asks of the system, this asks for the terminal alone
+mod system;
 
 use face::Answer;
 use judge::cases::{random, small};
