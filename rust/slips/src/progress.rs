@@ -54,3 +54,14 @@ pub fn cut(line: &str, columns: usize) -> String {
     let kept: String = line.chars().take(columns.saturating_sub(2)).collect();
     format!("{kept}..")
 }
+
+#[cfg(test)]
+mod tests {
+    use super::*;
+
+    #[test]
+    fn a_cut_line_says_so() {
+        assert_eq!(cut("Möser", 5), "Möser");
+        assert_eq!(cut("Möser, Paul", 5), "Mös..");
+    }
+}

@@ -85,10 +85,4 @@ mod tests {
         assert_eq!(shown(&[0xff], false), "ff");
         assert_eq!(shown(b"a", true), "61");
     }
-
-    #[test]
-    fn a_cut_line_says_so() {
-        assert_eq!(cut("Möser", 5), "Möser");
-        assert_eq!(cut("Möser, Paul", 5), "Mös..");
-    }
 }
