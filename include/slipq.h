@@ -32,7 +32,8 @@
  *   A row of document 01 (SLIPQ_ROW: 0 done, 1 empty, otherwise a refusal) and
  *   the value that comes with it (SLIPQ_VALUE), 0 where there is none. The shape
  *   is checked first, by rows 9 to 17 in their order; such a refusal changes
- *   nothing.
+ *   nothing. Where slipq_page_state and slipq_item look for what is not there
+ *   they answer SLIPQ_NOT_THERE, which is no row of document 01.
  *
  * Power cuts
  *   A store is one word that is ANDed into the image, or one page that is set to
@@ -76,6 +77,9 @@ extern "C" {
 #define SLIPQ_BAD_WORD 15u                        /* word not 4, 8, 16 or 32 */
 #define SLIPQ_TOO_LARGE 16u                       /* page over 4096, or over 64 pages */
 #define SLIPQ_OUTSIDE_IMAGE 17u                   /* the range ends beyond the image */
+
+/* slipq_page_state and slipq_item alone: there is no such page, or no such address in its data. Document 01 has no such row. */
+#define SLIPQ_NOT_THERE 255u
 
 /* The value of a done slipq_find_max_fit where not even the empty slip fits. */
 #define SLIPQ_NO_FIT 0xFFFFFFFFu
@@ -146,14 +150,14 @@ uint64_t slipq_erase_all(uint8_t *image, size_t image_len, uint32_t start, uint3
 uint64_t slipq_erase_all_limited(uint8_t *image, size_t image_len, uint32_t start, uint32_t end, uint32_t page, uint32_t word,
                                  size_t limit);
 
-/* The state of page p, counted from 0: row 0 and SLIPQ_PAGE_..; a page that is not there is row 12. Nothing changes. */
+/* The state of page p, counted from 0: row 0 and SLIPQ_PAGE_..; a page that is not there is SLIPQ_NOT_THERE. Nothing changes. */
 uint64_t slipq_page_state(const uint8_t *image, size_t image_len, uint32_t start, uint32_t end, uint32_t page, uint32_t word,
                           uint32_t p);
 
 /*
  * What the scan of page p sees at an address: row 0 and SLIPQ_ITEM_KIND, SLIPQ_ITEM_LENGTH of the value. A page that is not there, or
  * an address outside its data (the page without its first and last word; the end of the data counts as inside, and nothing more stands
- * there), is row 12. Nothing changes.
+ * there), is SLIPQ_NOT_THERE. Nothing changes.
  * To see all of a page begin behind its first word. From a slip go on by its header (8 bytes rounded up to a word) and its length
  * rounded up to a word, from SLIPQ_ITEM_NO_HEADER by a word; stop at SLIPQ_ITEM_END and at the page's last word.
  */

@@ -289,7 +289,7 @@ struct Look {
     expected: (u32, u32),
 }
 
-/// Looks at every page, at every word of the first pages' data, and at places outside them. Of a refused shape at two places.
+/// Looks at every page, at every word of the first pages, and at places outside them. Of a refused shape at two places.
 fn looks(case: &Case) -> impl Iterator<Item = Look> {
     let Case { shape, image, .. } = case;
     let pages = match refusal(shape, image.len()) {
@@ -310,8 +310,8 @@ fn looks(case: &Case) -> impl Iterator<Item = Look> {
             0 => 0,
             _ => shape.page / shape.word,
         };
-        // the first word of all is a mark, the last one too; the places around the page are outside
-        let within = (0..words.saturating_sub(1)).map(move |word| first + word * shape.word);
+        // the first word of all is a mark, and the last one stands at the end of the data; the places around the page are outside
+        let within = (0..words).map(move |word| first + word * shape.word);
         let around = [
             0,
             first.wrapping_sub(4),

@@ -5,8 +5,8 @@ use judge::{Shape, refusal};
 /// Row and value.
 pub type Numbers = (u32, u32);
 
-/// The row of a page that is not there, and of an address outside a page's data.
-const NOT_THERE: Numbers = (12, 0);
+/// What answers for a page that is not there, and for an address outside a page's data: include/slipq.h's number, no row of document 01.
+const NOT_THERE: Numbers = (255, 0);
 
 /// The state of page p: 0 open, 1 partial, 2 closed, 3 corrupted.
 pub fn page_state(image: &[u8], shape: &Shape, p: u32) -> Numbers {
@@ -37,7 +37,8 @@ pub fn item(image: &[u8], shape: &Shape, p: u32, address: u32) -> Numbers {
     let word = shape.word as usize;
     let data_end = bytes.len() - word;
     let at = match address.checked_sub(start) {
-        Some(at) if (word..data_end).contains(&(at as usize)) => at as usize,
+        // the end of the data too: a scan that comes to it sees nothing more
+        Some(at) if (word..=data_end).contains(&(at as usize)) => at as usize,
         _ => return NOT_THERE,
     };
     let rest = &bytes[at..data_end];

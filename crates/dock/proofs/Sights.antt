@@ -28,7 +28,17 @@ use Rattle.item.specs.Reading.{headAt}
 use Rattle.item.proofs.Live.{live-yes, live-no}
 use Rattle.item.proofs.Looking.{item-in}
 use Rattle.codes.specs.Codes.{code, rowCode}
-use Rattle.dock.specs.Sights.{outside, onPage, kind, seen, sight}
+use Rattle.codes.proofs.Distinct.{row-within}
+use Rattle.dock.specs.Sights.{outside, Free, onPage, kind, seen, sight}
+
+pub free : Free
+unfolding code
+free = record {
+  refusals = λ x e.
+      let w = row-within x in
+      omega arith;
+  values = λ v e. omega arith;
+}
 
 -- ---- a page of any shape, whose check answered k
 

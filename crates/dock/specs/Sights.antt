@@ -1,4 +1,5 @@
 -- What the two functions that only look answer, as numbers: a page's state, and what the scan sees at an address. Assumes nothing.
+use mathlib.Core.Path.{_≡_}
 use mathlib.Core.Bool.{cond, _&&_}
 use mathlib.Core.List.{List}
 use Prim.Native.Nat.{ℕ, _+_, _-_, _*_}
@@ -6,7 +7,7 @@ use lib.Dec.{leb, ltb}
 use lib.ListN.{length}
 use Rattle.paper.specs.declared.Geometry.{Geometry}
 use Rattle.paper.specs.declared.Shape.{Shape}
-use Rattle.paper.specs.declared.Refusal.the-variants as refusal
+use Rattle.paper.specs.declared.Refusal.{Refusal}
 use Rattle.paper.specs.declared.Checked.{Checked}
 use Rattle.paper.specs.declared.Checked.the-variants.{Accepted, Refused}
 use Rattle.paper.specs.Chip.{dataStart, dataEnd, part}
@@ -16,9 +17,14 @@ use Rattle.paper.specs.Pages.{rank, state}
 use Rattle.paper.specs.Refusals.{check, row}
 use Rattle.codes.specs.Codes.{code, rowCode}
 
--- row 12, for a page or an address that is not there
+-- for a page or an address that is not there
 abbrev pub outside : ℕ
-outside = rowCode (row refusal.RangeTooSmall)
+outside = 255
+
+-- no refusal has this number, and nothing that is there
+pub record Free : Type 0 where
+  pub refusals : (x : Refusal) → rowCode (row x) ≡ outside → ⊥
+  pub values : (v : ℕ) → code 0 v ≡ outside → ⊥
 
 -- a look at page p: the shape's refusal, then that there is no such page
 abbrev pub onPage : Checked → ℕ → (Geometry → ℕ) → ℕ

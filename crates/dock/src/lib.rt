@@ -19,7 +19,6 @@ use item::ItemHeader;
 use item::MaybeHeader;
 use paper::Checked;
 use paper::Geometry;
-use paper::Refusal;
 use paper::Shape;
 
 // ---- the check
@@ -298,7 +297,9 @@ pub extern "C" fn slipq_erase_all_limited(
 
 // ---- looks at the image
 
-// A page that is not there lies outside the range, and so does an address that its data has not: row 12 tells both.
+// For a page that is not there, and for an address that its data has not: no row of document 01 has this number.
+const NOT_THERE: u64 = 255;
+
 #[no_mangle]
 pub extern "C" fn slipq_page_state(
     image: &[u8],
@@ -321,7 +322,7 @@ pub extern "C" fn slipq_page_state(
         Checked::Refused(refusal) => codes::refusal_code(refusal),
         Checked::Accepted(g) => {
             if p >= g.pages {
-                return codes::refusal_code(Refusal::RangeTooSmall);
+                return NOT_THERE;
             }
             let state = page::get_page_state(image, g, Page(p));
             codes::coded(0, page::rank(state) as usize)
@@ -352,7 +353,7 @@ pub extern "C" fn slipq_item(
         Checked::Refused(refusal) => codes::refusal_code(refusal),
         Checked::Accepted(g) => {
             if p >= g.pages {
-                return codes::refusal_code(Refusal::RangeTooSmall);
+                return NOT_THERE;
             }
             item_on_page(image, g, Page(p), Address(address))
         }
@@ -367,10 +368,10 @@ fn item_on_page(image: &[u8], g: Geometry, p: Page, at: Address) -> u64
     let first = chip::page_data_start_address(g, p);
     let end = chip::page_data_end_address(g, p);
     if at.0 < first.0 {
-        return codes::refusal_code(Refusal::RangeTooSmall);
+        return NOT_THERE;
     }
     if end.0 < at.0 {
-        return codes::refusal_code(Refusal::RangeTooSmall);
+        return NOT_THERE;
     }
     codes::coded(0, item_at(image, g, at, end))
 }

@@ -10,3 +10,4 @@ pub mod PageBytes
 pub mod Ring
 pub mod Standing
 pub mod Accepted
+pub mod AnswerNumbers

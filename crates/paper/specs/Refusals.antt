@@ -133,3 +133,8 @@ spaceAs (spaces.Refused r) = refused r
 abbrev pub erasedAs : Erased → Answer
 erasedAs erased.Done = done
 erasedAs (erased.Refused r) = refused r
+
+-- the same for the check of a shape: with an accepted one come the numbers of its geometry
+unfoldable pub checkedNumbers : Checked → List ℕ
+checkedNumbers (Accepted g) = 0 ∷ g .start ∷ g .page ∷ g .word ∷ g .pages ∷ []
+checkedNumbers (Refused r) = row r

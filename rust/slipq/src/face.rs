@@ -141,7 +141,7 @@ unsafe extern "C" {
     ) -> u64;
 }
 
-/// Document 01's row, and the value that comes with it.
+/// Document 01's row, and the value that comes with it. A look has one more: 255, there is no such page or address.
 #[derive(Clone, Copy, Debug, PartialEq, Eq)]
 pub struct Answer {
     pub row: u32,

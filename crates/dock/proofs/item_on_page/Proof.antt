@@ -1,7 +1,7 @@
 -- `dock::item_on_page` meets its contract: by the two tests of the address. Assumes nothing.
 use borrow.Author.Needs.{needs}
 use native.Mathlib.Omega.{arith}
-use mathlib.Core.Path.{ap, _∙_}
+use mathlib.Core.Path.{refl, ap, _∙_}
 use Rattle.codes.specs.Codes.{code}
 use Prim.Native.Nat.{ℕ, _-_}
 use Rattle.paper.specs.Chip.{part}
@@ -22,31 +22,25 @@ page-data-end-address-requires c κs =
     let pre = c .before .before .pre in
     (pre .0 .good, pre .1)
 
-refusal-code-requires : tie.Need-refusal-code-requires
-refusal-code-requires c κs = search needs
-
 returns : tie.Need-returns
 returns c =
-    let args-at-0 = c .before .before .before .before .before .before .before .args .at .0 in
-    let args-g = c .before .before .before .before .before .before .before .args .g in
-    let args-image-now = c .before .before .before .before .before .before .before .args .image .now in
-    let args-p-0 = c .before .before .before .before .before .before .before .args .p .0 in
-    let page-data-start-address-ensures = c .before .before .before .before .before .page-data-start-address .ensures in
-    sight-below args-g args-image-now args-p-0 args-at-0 (omega (arith, page-data-start-address-ensures)) (c .refusal-code .ensures)
-
-refusal-code-requires-2 : tie.Need-refusal-code-requires-2
-refusal-code-requires-2 c κs = search needs
+    let args-at-0 = c .before .before .before .before .before .before .args .at .0 in
+    let args-g = c .before .before .before .before .before .before .args .g in
+    let args-image-now = c .before .before .before .before .before .before .args .image .now in
+    let args-p-0 = c .before .before .before .before .before .before .args .p .0 in
+    let page-data-start-address-ensures = c .before .before .before .before .page-data-start-address .ensures in
+    sight-below args-g args-image-now args-p-0 args-at-0 (omega (arith, page-data-start-address-ensures)) refl
 
 returns-2 : tie.Need-returns-2
 returns-2 c =
-    let args-at-0 = c .before .before .before .before .before .before .before .before .before .before .args .at .0 in
-    let args-g = c .before .before .before .before .before .before .before .before .before .before .args .g in
-    let args-image-now = c .before .before .before .before .before .before .before .before .before .before .args .image .now in
-    let args-p-0 = c .before .before .before .before .before .before .before .before .before .before .args .p .0 in
-    let page-data-start-address-ensures = c .before .before .before .before .before .before .before .before .page-data-start-address .ensures in
-    let page-data-end-address-ensures = c .before .before .before .before .before .before .before .page-data-end-address .ensures in
+    let args-at-0 = c .before .before .before .before .before .before .before .before .before .args .at .0 in
+    let args-g = c .before .before .before .before .before .before .before .before .before .args .g in
+    let args-image-now = c .before .before .before .before .before .before .before .before .before .args .image .now in
+    let args-p-0 = c .before .before .before .before .before .before .before .before .before .args .p .0 in
+    let page-data-start-address-ensures = c .before .before .before .before .before .before .before .page-data-start-address .ensures in
+    let page-data-end-address-ensures = c .before .before .before .before .before .before .page-data-end-address .ensures in
     sight-above args-g args-image-now args-p-0 args-at-0 (omega (arith, page-data-start-address-ensures))
-    (omega (arith, page-data-end-address-ensures)) (c .refusal-code2 .ensures)
+    (omega (arith, page-data-end-address-ensures)) refl
 
 item-at-requires : tie.Need-item-at-requires
 item-at-requires c κs =
@@ -77,9 +71,7 @@ item-on-page-spec =
     (tie.spec
     page-data-start-address-requires
     page-data-end-address-requires
-    refusal-code-requires
     returns
-    refusal-code-requires-2
     returns-2
     item-at-requires
     coded-requires

@@ -1,5 +1,6 @@
 -- `dock::slipq_item` meets its contract: by the cases of the check, and whether there is such a page. Assumes nothing.
 use borrow.Author.Needs.{needs}
+use mathlib.Core.Path.{refl}
 use Rattle.dock.specs.Sights.{itemCode, sight}
 use Rattle.dock.proofs.Sights.{page-refused, page-missing, page-there}
 use Rattle.dock.proofs.slipq_item.Statement.{statement}
@@ -17,16 +18,13 @@ refusal-code-requires c κs = search needs
 enum-known-checked-2 : tie.Need-enum-known-checked-2
 enum-known-checked-2 c = search needs
 
-refusal-code-requires-2 : tie.Need-refusal-code-requires-2
-refusal-code-requires-2 c κs = search needs
-
 returns : tie.Need-returns
 unfolding itemCode
 returns c =
-    let args = c .before .before .before .before .before .before .before .before .args in
-    let check-geometry = c .before .before .before .before .before .before .check-geometry in
-    let checked2 = c .before .before .before .before .checked2 in
-    page-missing _ _ (args .p) (check-geometry .ensures) _ _ (checked2 .given .1) (c .before .if1 .taken) (c .refusal-code2 .ensures)
+    let args = c .before .before .before .before .before .before .before .args in
+    let check-geometry = c .before .before .before .before .before .check-geometry in
+    let checked2 = c .before .before .before .checked2 in
+    page-missing _ _ (args .p) (check-geometry .ensures) _ _ (checked2 .given .1) (c .if1 .taken) refl
 
 item-on-page-requires : tie.Need-item-on-page-requires
 item-on-page-requires c κs =
@@ -58,7 +56,6 @@ slipq-item-spec =
     enum-known-checked
     refusal-code-requires
     enum-known-checked-2
-    refusal-code-requires-2
     returns
     item-on-page-requires
     returns-2

@@ -1,6 +1,6 @@
 -- `dock::slipq_page_state` meets its contract: by the cases of the check, and whether there is such a page. Assumes nothing.
 use borrow.Author.Needs.{needs}
-use mathlib.Core.Path.{ap, _∙_}
+use mathlib.Core.Path.{refl, ap, _∙_}
 use Rattle.codes.specs.Codes.{code}
 use Rattle.paper.specs.declared.PageState.{PageState}
 use Rattle.paper.specs.Pages.{rank, state}
@@ -22,16 +22,13 @@ refusal-code-requires c κs = search needs
 enum-known-checked-2 : tie.Need-enum-known-checked-2
 enum-known-checked-2 c = search needs
 
-refusal-code-requires-2 : tie.Need-refusal-code-requires-2
-refusal-code-requires-2 c κs = search needs
-
 returns : tie.Need-returns
 unfolding stateCode
 returns c =
-    let args = c .before .before .before .before .before .before .before .before .args in
-    let check-geometry = c .before .before .before .before .before .before .check-geometry in
-    let checked2 = c .before .before .before .before .checked2 in
-    page-missing _ _ (args .p) (check-geometry .ensures) _ _ (checked2 .given .1) (c .before .if1 .taken) (c .refusal-code2 .ensures)
+    let args = c .before .before .before .before .before .before .before .args in
+    let check-geometry = c .before .before .before .before .before .check-geometry in
+    let checked2 = c .before .before .before .checked2 in
+    page-missing _ _ (args .p) (check-geometry .ensures) _ _ (checked2 .given .1) (c .if1 .taken) refl
 
 get-page-state-requires : tie.Need-get-page-state-requires
 get-page-state-requires c κs =
@@ -74,7 +71,6 @@ slipq-page-state-spec =
     enum-known-checked
     refusal-code-requires
     enum-known-checked-2
-    refusal-code-requires-2
     returns
     get-page-state-requires
     rank-requires
