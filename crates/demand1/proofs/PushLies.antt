@@ -20,7 +20,8 @@ use Rattle.laws.proofs.Accepted.{neither, Laid}
 use Rattle.laws.proofs.Ring.{next-in}
 use Rattle.demand1.specs.Range.{Lies, Each}
 use Rattle.demand1.proofs.Pages.{layout}
-use Rattle.demand1.proofs.Walks.{Room, spot-room, page-room, header-behind}
+use Rattle.laws.proofs.Headers.{header-behind}
+use Rattle.demand1.proofs.Walks.{Room, spot-room, page-room}
 use Rattle.demand1.proofs.Lying.{Alike}
 use Rattle.demand1.proofs.Does.{Tried, Any}
 use Rattle.demand1.proofs.Searches.{youngest-in}

@@ -14,23 +14,12 @@ use Rattle.paper.specs.Scan.{Head, Walk, onward, walk, pageWalk, walkOn, freeSp
 use Rattle.laws.proofs.Accepted.{Laid}
 use Rattle.laws.proofs.Parts.{length-part}
 use Rattle.laws.proofs.Places.{page-in}
-use Rattle.laws.proofs.Rounding.{round-up-ge, round-up-behind, round-down-le}
+use Rattle.laws.proofs.Rounding.{round-down-le}
+use Rattle.laws.proofs.Headers.{header-ge, header-behind}
 use Rattle.demand1.specs.Range.{Each}
 use Rattle.demand1.proofs.Lists.{each-weaker}
 use Rattle.demand1.proofs.Items.{look-room}
 use Rattle.demand1.proofs.Pages.{layout, InData, round-up-whole, header-whole}
-
--- ---- the header's size
-
-pub header-low : (g : Geometry) → 0 < g .word → 8 ≤ headerSize g
-unfolding headerSize
-header-low g low = round-up-ge (g .word) 8 low
-
--- what serves a length serves it rounded up
-pub header-behind : (g : Geometry) → 0 < g .word → (r n : ℕ) → headerSize g + n ≤ roundDown (g .word) r
-    → headerSize g + roundUp (g .word) n ≤ roundDown (g .word) r
-unfolding headerSize
-header-behind g low r n k = round-up-behind (g .word) 8 n r low k
 
 -- ---- a walk over data from lo up to hi
 
@@ -71,7 +60,7 @@ module _ (g : Geometry) (low : 0 < g .word) (lo hi : ℕ) (whole : g .word ∣ h
       by (item c n body) q f =
           let room = look-room g (b ∷ bs) q in
           let size : ℕ = headerSize g + roundUp (g .word) n in
-          let some : 0 < size = omega (arith, header-low g low) in
+          let some : 0 < size = omega (arith, header-ge g low) in
           let w = f (size - 1) (further size some (dvd-add (g .word) (header-whole g) (round-up-whole (g .word) n))) in
           record {
             heads-stand = (record { aligned = here; low = l; high = omega arith }, w .heads-stand);

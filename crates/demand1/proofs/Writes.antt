@@ -1,5 +1,4 @@
 -- The stores of a mark, of a header and of an item lie in the range. Assumes nothing.
-use mathlib.Core.Path.{_≡_, ap, _∙_}
 use mathlib.Core.List.{List}
 use Prim.Native.Nat.{ℕ, zero, suc, _+_, _*_, _≤_, _<_, _∣_}
 use native.Mathlib.Nat.{suc-mul, dvd-add, dvd-refl, mod-eq-zero-of-dvd}
@@ -8,17 +7,17 @@ use lib.ListN.{length, drop, length-replicate}
 use Rattle.paper.specs.declared.Geometry.{Geometry}
 use Rattle.paper.specs.Checksum.{dataCrc}
 use Rattle.paper.specs.Chip.{wordsFor, roundUp, headerSize, pageStart, words, writes}
-use Rattle.paper.specs.Slip.{bytesOf, encode}
+use Rattle.paper.specs.Slip.{encode}
 use Rattle.paper.specs.Pages.{setStart, setEnd}
 use Rattle.paper.specs.Calls.{itemAt}
 use Rattle.laws.proofs.Accepted.{Laid}
 use Rattle.laws.proofs.Parts.{length-padded}
 use Rattle.laws.proofs.Places.{page-in}
-use Rattle.laws.proofs.Rounding.{round-up-again}
 use Rattle.demand1.specs.Range.{Lies, Each}
 use Rattle.demand1.proofs.Lists.{each-append}
 use Rattle.demand1.proofs.Pages.{layout, header-whole}
-use Rattle.demand1.proofs.Walks.{Room, header-low}
+use Rattle.laws.proofs.Headers.{encode-whole}
+use Rattle.demand1.proofs.Walks.{Room}
 
 module _ {g : Geometry} {n : ℕ} (S : Laid g n) where
   pub start-lies : (p : ℕ) → p < g .pages → Lies g (setStart g p)
@@ -47,18 +46,10 @@ module _ {g : Geometry} {n : ℕ} (S : Laid g n) where
   unfolding writes roundUp
   writes-lie a bytes v l h = words-lie (wordsFor (g .word) (length bytes)) a bytes v l h
 
-  encode-length : (c m : ℕ) → length (encode g c m) ≡ headerSize g
-  unfolding encode bytesOf
-  encode-length c m = simp length-replicate (omega (arith, header-low g (S .low)))
-
-  encode-rounded : (c m : ℕ) → roundUp (g .word) (length (encode g c m)) ≡ headerSize g
-  unfolding headerSize
-  encode-rounded c m = ap (roundUp (g .word)) (encode-length c m) ∙ round-up-again (g .word) 8 (S .low)
-
   -- where an item has room
   module _ (a m : ℕ) (R : Room g a m) where
     pub header-lies : (c k : ℕ) → Each (Lies g) (writes g a (encode g c k))
-    header-lies c k = writes-lie a (encode g c k) (R .aligned) (R .low) (omega (arith, encode-rounded c k, R .high))
+    header-lies c k = writes-lie a (encode g c k) (R .aligned) (R .low) (omega (arith, encode-whole g (S .low) c k, R .high))
 
   pub item-lies : (a : ℕ) (slip : List ℕ) → Room g a (length slip) → Each (Lies g) (itemAt g a slip)
   unfolding itemAt

@@ -11,7 +11,8 @@ use Rattle.paper.specs.declared.Geometry.{Geometry}
 use Rattle.paper.specs.Chip.{headerSize}
 use Rattle.paper.specs.Slip.{blank, Look, stop, bad, item, look}
 use Rattle.paper.specs.Scan.{Head, Walk, onward, walk}
-use Rattle.demand3.proofs.Sizes.{itemSize, header-ge}
+use Rattle.laws.proofs.Headers.{header-ge}
+use Rattle.demand3.proofs.Sizes.{itemSize}
 use Rattle.demand3.proofs.Blank.{blank-take}
 use Rattle.demand3.proofs.Looks.{blank-stop}
 

@@ -17,7 +17,8 @@ use Rattle.laws.proofs.Accepted.{Laid, Word, four, wide}
 use Rattle.laws.proofs.Places.{page-next, page-below}
 use Rattle.laws.proofs.Ring.{all-pages}
 use Rattle.laws.proofs.Sides.{Side, below, above, side}
-use Rattle.demand3.proofs.Sizes.{itemSize, header-word, header-ge}
+use Rattle.laws.proofs.Headers.{header-word, header-ge}
+use Rattle.demand3.proofs.Sizes.{itemSize}
 use Rattle.demand3.proofs.Events.{Avoids, avoid-append}
 use Rattle.demand3.proofs.Looks.{look-bad, look-item}
 use Rattle.demand3.proofs.Courses.{Course, here, past, over, course-of}

@@ -6,7 +6,7 @@ use Prim.Native.Nat.{ℕ, zero, suc, _-_, _%_, _^_, _≤_, _<_}
 use native.Mathlib.Omega.{arith}
 use borrow.Author.Tests.{ne-eqb}
 use lib.Dec.{lit<}
-use lib.ListN.{length, take, length-append, length-replicate}
+use lib.ListN.{length, take, length-append}
 use lib.Seq.{drop-at}
 use Rattle.paper.specs.declared.Geometry.{Geometry}
 use Rattle.paper.specs.Checksum.{lengthCrc}
@@ -14,8 +14,8 @@ use Rattle.paper.specs.Chip.{roundUp, headerSize}
 use Rattle.paper.specs.Slip.{item, look, blank, bytesOf, encode}
 use Rattle.paper.specs.Fifo.{Bytes}
 use Rattle.checksum.proofs.Adjusted.{length-lt}
-use Rattle.demand3.proofs.Sizes.{header-ge}
-use Rattle.demand3.proofs.Bytes.{length-bytes, bytes-append, number-bytes, bytes-bytes, bytes-replicate}
+use Rattle.laws.proofs.Headers.{header-ge, length-encode}
+use Rattle.demand3.proofs.Bytes.{bytes-append, number-bytes, bytes-bytes, bytes-replicate}
 use Rattle.demand3.proofs.Looks.{Accepted, item-look}
 
 -- a first byte that is not FF
@@ -25,10 +25,6 @@ first-used zero b bs h n = let z : ⊥ = omega arith in absurd z
 first-used (suc k) b bs h n = rw (ne-eqb b 255 n)
 
 module _ (g : Geometry) (pos : 0 < g .word) where
-  pub length-encode : (c n : ℕ) → length (encode g c n) ≡ headerSize g
-  unfolding encode
-  length-encode c n = simp (length-append, length-bytes, length-replicate) (omega (arith, header-ge g pos))
-
   pub bytes-encode : (c n : ℕ) → Bytes (encode g c n)
   unfolding encode
   bytes-encode c n = bytes-append (bytesOf 4 c) _ (bytes-bytes 4 c) (bytes-append (bytesOf 2 n) _ (bytes-bytes 2 n)
@@ -39,12 +35,12 @@ module _ (g : Geometry) (pos : 0 < g .word) where
     pub encoded : Accepted g (encode g c n ++ rest) c n (take n rest)
     unfolding encode bytesOf
     encoded = record {
-      room = omega (arith, length-append (encode g c n) rest, length-encode c n);
+      room = omega (arith, length-append (encode g c n) rest, length-encode g pos c n);
       used = first-used (headerSize g) (c % 256) _ (omega (arith, header-ge g pos)) low;
       check = sym (number-bytes 2 (lengthCrc (bytesOf 2 n)) (length-lt (bytesOf 2 n)));
       crc-is = number-bytes 4 c hc;
       len-is = number-bytes 2 n hn;
-      body-is = ap (λ (l : List ℕ). take n l) (drop-at (encode g c n) rest (headerSize g) (length-encode c n));
+      body-is = ap (λ (l : List ℕ). take n l) (drop-at (encode g c n) rest (headerSize g) (length-encode g pos c n));
     }
 
     pub look-encoded : look g (encode g c n ++ rest) ≡ item c n (take n rest)

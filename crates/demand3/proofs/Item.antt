@@ -15,11 +15,12 @@ use Rattle.paper.specs.Calls.{itemAt}
 use Rattle.paper.specs.Fifo.{Bytes}
 use Rattle.laws.proofs.Rounding.{round-up-ge}
 use Rattle.laws.proofs.Sides.{Side, below, above, side}
-use Rattle.demand3.proofs.Sizes.{itemSize, header-ge}
+use Rattle.laws.proofs.Headers.{header-ge, length-encode}
+use Rattle.demand3.proofs.Sizes.{itemSize}
 use Rattle.demand3.proofs.Bytes.{bytes-append, bytes-replicate, bytes-take}
 use Rattle.demand3.proofs.Events.{Avoids, avoid-append}
 use Rattle.demand3.proofs.Words.{words-pad, words-append, words-whole, count-words, avoid-writes}
-use Rattle.demand3.proofs.Headers.{bytes-encode, length-encode}
+use Rattle.demand3.proofs.Headers.{bytes-encode}
 
 -- a slip's header, and the slip padded with zeros
 abbrev pub headerOf : Geometry → List ℕ → List ℕ

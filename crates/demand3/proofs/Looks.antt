@@ -13,7 +13,8 @@ use Rattle.paper.specs.Chip.{headerSize, part}
 use Rattle.paper.specs.Slip.{stop, bad, item, look, decode, blank, numberOf}
 use Rattle.laws.proofs.Parts.{part-take}
 use Rattle.laws.proofs.Rounding.{round-up-ge}
-use Rattle.demand3.proofs.Sizes.{itemSize, header-ge}
+use Rattle.laws.proofs.Headers.{header-ge}
+use Rattle.demand3.proofs.Sizes.{itemSize}
 
 -- what an accepted header says of the bytes
 pub record Accepted (g : Geometry) (d : List ℕ) (c n : ℕ) (body : List ℕ) : Type 0 where

@@ -2,7 +2,7 @@
 use mathlib.Core.List.{List, [], _∷_, _++_, append-nil, tail, List·Memᴰ}
 use mathlib.Core.Logic.{inr}
 use mathlib.Core.Path.{_≡_, refl, sym, ap, _∙_, subst}
-use Prim.Native.Nat.{ℕ, _-_, _≤_, _<_}
+use Prim.Native.Nat.{ℕ, _-_, _≤_}
 use native.Mathlib.Omega.{arith}
 use lib.ListN.{length, take}
 use Rattle.paper.specs.declared.Geometry.{Geometry}

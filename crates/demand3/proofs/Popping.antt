@@ -23,7 +23,7 @@ use Rattle.laws.proofs.Accepted.{Word, four, wide}
 use Rattle.laws.proofs.Parts.{length-part}
 use Rattle.laws.proofs.Ring.{turn, turn-zero, turn-apart}
 use Rattle.laws.proofs.Rounding.{round-up-ge}
-use Rattle.demand3.proofs.Sizes.{header-ge}
+use Rattle.laws.proofs.Headers.{header-ge}
 use Rattle.demand3.proofs.Bytes.{bytes-take, bytes-drop, put-bytes}
 use Rattle.demand3.proofs.Looks.{Accepted, look-item}
 use Rattle.demand3.proofs.Replaced.{NoneAccepted, front-of}

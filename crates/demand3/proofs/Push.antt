@@ -19,7 +19,7 @@ use Rattle.paper.specs.Waiting.{waiting}
 use Rattle.paper.specs.Fifo.{Power, whole, cutAfter, eventsOf, imageNext, Ghost, ghostNext, headerPlan, headerAt, got, Bytes, Fair, Full, added, big, noRoom}
 use Rattle.laws.proofs.Events.{image-append, before-less, before-more, before-all}
 use Rattle.laws.proofs.Sides.{Side, below, above, side}
-use Rattle.demand3.proofs.Sizes.{header-ge}
+use Rattle.laws.proofs.Headers.{header-ge}
 use Rattle.demand3.proofs.Events.{avoid-append, avoid-before}
 use Rattle.demand3.proofs.Words.{header-words}
 use Rattle.demand3.proofs.Plans.{bind-known}

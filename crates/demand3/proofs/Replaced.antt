@@ -11,7 +11,8 @@ use Rattle.paper.specs.declared.Geometry.{Geometry}
 use Rattle.paper.specs.Chip.{headerSize}
 use Rattle.paper.specs.Slip.{Look, stop, bad, item, look, blank}
 use Rattle.paper.specs.Scan.{Head, Walk, onward, walk}
-use Rattle.demand3.proofs.Sizes.{itemSize, header-word}
+use Rattle.laws.proofs.Headers.{header-word}
+use Rattle.demand3.proofs.Sizes.{itemSize}
 use Rattle.demand3.proofs.Blank.{blank-front}
 use Rattle.demand3.proofs.Looks.{look-bad, look-item, look-same, used-looks}
 use Rattle.demand3.proofs.Courses.{Course, here, past, over, walk-step}

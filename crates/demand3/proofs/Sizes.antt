@@ -5,24 +5,16 @@ use native.Mathlib.Nat.{div-eq-of-lt-le}
 use native.Mathlib.Omega.{arith}
 use Rattle.paper.specs.declared.Geometry.{Geometry}
 use Rattle.paper.specs.Chip.{roundUp, roundDown, wordsFor, headerSize}
-use Rattle.laws.proofs.Rounding.{round-up-ge, round-up-step, round-up-behind, round-down-le}
+use Rattle.laws.proofs.Rounding.{round-down-le}
+use Rattle.laws.proofs.Headers.{header-behind}
 
 -- an item of n bytes takes its header and its rounded payload
 abbrev pub itemSize : Geometry → ℕ → ℕ
 itemSize g n = headerSize g + roundUp (g .word) n
 
-pub header-ge : (g : Geometry) → 0 < g .word → 8 ≤ headerSize g
-unfolding headerSize
-header-ge g h = round-up-ge (g .word) 8 h
-
-pub header-word : (g : Geometry) → 0 < g .word → g .word ≤ headerSize g
-unfolding headerSize
-header-word g h = omega (arith, round-up-step (g .word) 8 h (omega arith))
-
 -- a spot that serves a length has room for the rounded item
 pub serves-room : (g : Geometry) (r n : ℕ) → 0 < g .word → headerSize g + n ≤ roundDown (g .word) r → headerSize g + roundUp (g .word) n ≤ r
-unfolding headerSize
-serves-room g r n h k = omega (arith, round-up-behind (g .word) 8 n r h k, round-down-le (g .word) r)
+serves-room g r n h k = omega (arith, header-behind g h r n k, round-down-le (g .word) r)
 
 -- words of 8 and more hold a header
 pub wide-header : (g : Geometry) → 8 ≤ g .word → headerSize g ≡ g .word

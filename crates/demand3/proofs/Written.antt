@@ -17,7 +17,8 @@ use Rattle.paper.specs.Fifo.{Bytes}
 use Rattle.laws.proofs.Puts.{put-at-end}
 use Rattle.laws.proofs.Rounding.{round-up-ge}
 use Rattle.checksum.proofs.Adjusted.{data-low, data-lt}
-use Rattle.demand3.proofs.Sizes.{itemSize, header-ge}
+use Rattle.laws.proofs.Headers.{header-ge}
+use Rattle.demand3.proofs.Sizes.{itemSize}
 use Rattle.demand3.proofs.Blank.{blank-take, blank-drop}
 use Rattle.demand3.proofs.Bytes.{bytes-append, bytes-drop}
 use Rattle.demand3.proofs.Ands.{ands-blank}

@@ -16,11 +16,10 @@ use Rattle.laws.proofs.Events.{before-all}
 use Rattle.laws.proofs.Parts.{part-take, length-part}
 use Rattle.laws.proofs.Puts.{length-put, part-after, put-put, put-self}
 use Rattle.laws.proofs.Sides.{Side, below, above, side}
-use Rattle.demand3.proofs.Sizes.{header-ge}
+use Rattle.laws.proofs.Headers.{header-ge, length-encode}
 use Rattle.demand3.proofs.Bytes.{bytes-take, bytes-drop, number-back}
 use Rattle.demand3.proofs.Ands.{ands-kept}
 use Rattle.demand3.proofs.Words.{words-prefix, words-whole, count-words}
-use Rattle.demand3.proofs.Headers.{length-encode}
 use Rattle.demand3.proofs.ZeroedScan.{zeros4}
 
 -- the bytes x begin with a header of length n

@@ -11,7 +11,8 @@ use Rattle.paper.specs.Chip.{headerSize, put}
 use Rattle.paper.specs.Slip.{item, look, blank, numberOf}
 use Rattle.paper.specs.Scan.{Head, Walk, onward, walk}
 use Rattle.laws.proofs.Puts.{put-at-end}
-use Rattle.demand3.proofs.Sizes.{itemSize, header-ge, header-word}
+use Rattle.laws.proofs.Headers.{header-ge, header-word}
+use Rattle.demand3.proofs.Sizes.{itemSize}
 use Rattle.demand3.proofs.Looks.{look-item, look-bad, item-look}
 use Rattle.demand3.proofs.Headers.{first-used}
 use Rattle.demand3.proofs.Courses.{Course, here, past, over, walk-step, course-of, walk-stops, course-walk}

@@ -3,15 +3,14 @@ use mathlib.Core.Path.{_≡_, ap, ap₂, _∙_}
 use mathlib.Core.List.{List, [], _∷_}
 use Prim.Native.Nat.{ℕ, _+_, _-_, _/_, _%_}
 use native.Mathlib.Omega.{arith}
-use lib.ListN.{length, take, replicate, length-replicate}
+use lib.ListN.{take, replicate}
 use lib.Seq.{take-append-add}
 use Rattle.paper.specs.declared.Geometry.{Geometry}
 use Rattle.paper.specs.Checksum.{lengthCrc}
-use Rattle.paper.specs.Chip.{roundUp, headerSize}
+use Rattle.paper.specs.Chip.{headerSize}
 use Rattle.paper.specs.Slip.{bytesOf, encode}
 use Rattle.laws.proofs.Parts.{take-replicate}
 use Rattle.chip.specs.Within.{Good}
-use Rattle.laws.proofs.Rounding.{round-up-again}
 
 module _ (g : Geometry) (good : Good g) (crc len : ℕ) where
   -- four bytes of the CRC, two of the length, two of its checksum s, and FF
@@ -28,12 +27,3 @@ module _ (g : Geometry) (good : Good g) (crc len : ℕ) where
       ∙ take-append-add front (replicate 24 0xff) k
       ∙ ap (λ (x : List ℕ). a ∷ b ∷ c ∷ d ∷ e ∷ f ∷ h ∷ i ∷ x) (take-replicate k 24 0xff (omega arith))
       ∙ rw (ea, eb, ec, ed, ee, ef, eh, ei, y)
-
-  pub length-encode : length (encode g crc len) ≡ headerSize g
-  unfolding encode bytesOf
-  length-encode = simp length-replicate (omega arith)
-
-  -- it fills whole words
-  pub round-up-encode : roundUp (g .word) (length (encode g crc len)) ≡ headerSize g
-  unfolding headerSize
-  round-up-encode = ap (roundUp (g .word)) length-encode ∙ round-up-again (g .word) 8 (omega arith)

@@ -5,6 +5,7 @@ pub mod Ands
 pub mod Marks
 pub mod Events
 pub mod Rounding
+pub mod Headers
 pub mod Places
 pub mod PageBytes
 pub mod Ring

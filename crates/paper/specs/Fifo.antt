@@ -9,7 +9,7 @@ use lib.ListN.{length, take, replicate}
 use Rattle.paper.specs.declared.Shape.{Shape}
 use Rattle.paper.specs.declared.Refusal.the-variants as refusal
 use Rattle.paper.specs.Checksum.{dataCrc}
-use Rattle.paper.specs.Chip.{Geometry, roundUp, headerSize, wordsFor, pageStart, pageBytes, part, Event, store, erase, copy, imageAfter, bufferAfter, storeCount, before, Plan, plan, Try, fails, gives}
+use Rattle.paper.specs.Chip.{Geometry, headerSize, wordsFor, pageStart, pageBytes, part, Event, store, erase, copy, imageAfter, bufferAfter, storeCount, before, Plan, plan, Try, fails, gives}
 use Rattle.paper.specs.Scan.{Head, pageWalk, serves, live, anyLive}
 use Rattle.paper.specs.Pages.{Closed, state, next, allPages, youngest}
 use Rattle.paper.specs.Refusals.{Accepted, check, Answer, done, shown, number, none, empty, refused}

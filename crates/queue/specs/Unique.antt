@@ -3,7 +3,6 @@ use mathlib.Core.Path.{_≡_}
 use mathlib.Core.Bool.{Bool}
 use mathlib.Core.List.{List}
 use Prim.Native.Nat.{ℕ}
-use lib.ListN.{length}
 use Rattle.paper.specs.declared.Shape.{Shape}
 use Rattle.paper.specs.Refusals.{pushedAs, shownAs, fitAs, spaceAs, erasedAs}
 use Rattle.paper.specs.Calls.{pushes, peeks, pops, fits, spaces, erasesAll}

@@ -1,6 +1,5 @@
 -- `queue::pop_under` meets its contract: refused with its shape, or what the accepted call promises. Assumes nothing.
 use borrow.Author.Needs.{needs}
-use lib.ListN.{length}
 use Rattle.paper.specs.Calls.{planOf, pops}
 use Rattle.queue.proofs.Calls.{shows-refused, shows-accepted}
 use Rattle.queue.proofs.pop_under.Statement.{statement}
