@@ -8,6 +8,10 @@ mod face;
 mod progress;
 mod rules;
 mod shrink;
+// progress.rs asks it for the terminal, and for no more
+#[allow(dead_code)]
+#[path = "../slips/src/system.rs"]
+mod system;
 
 use face::Answer;
 use judge::cases::{random, small};

@@ -1,7 +1,8 @@
 //! A picture of the pages, in 80 columns.
 use crate::file::Stored;
 use crate::page::{Page, is_erased};
-use crate::show::{counted, cut, shown};
+use crate::progress::cut;
+use crate::show::{counted, shown};
 use crate::survey::Survey;
 use slipq::{Item, ItemState, PageState};
 use std::fmt::Write;

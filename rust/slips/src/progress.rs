@@ -1,5 +1,4 @@
 //! One line that says how far a long run has come: rewritten in place on a terminal, otherwise a new line now and then.
-use crate::show::cut;
 use crate::system::{columns, is_screen};
 use std::io::{Write, stderr};
 use std::time::{Duration, Instant};
@@ -44,5 +43,25 @@ impl Progress {
         if std::mem::take(&mut self.is_shown) {
             let _ = write!(stderr(), "\r\x1b[K");
         }
+    }
+}
+
+/// A line cut to so many columns; two dots say that there was more.
+pub fn cut(line: &str, columns: usize) -> String {
+    if line.chars().count() <= columns {
+        return line.into();
+    }
+    let kept: String = line.chars().take(columns.saturating_sub(2)).collect();
+    format!("{kept}..")
+}
+
+#[cfg(test)]
+mod tests {
+    use super::*;
+
+    #[test]
+    fn a_cut_line_says_so() {
+        assert_eq!(cut("Möser", 5), "Möser");
+        assert_eq!(cut("Möser, Paul", 5), "Mös..");
     }
 }

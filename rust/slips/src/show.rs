@@ -49,15 +49,6 @@ pub fn numbered(pages: &[u32]) -> String {
     }
 }
 
-/// A line cut to so many columns; two dots say that there was more.
-pub fn cut(line: &str, columns: usize) -> String {
-    if line.chars().count() <= columns {
-        return line.into();
-    }
-    let kept: String = line.chars().take(columns.saturating_sub(2)).collect();
-    format!("{kept}..")
-}
-
 /// A line on the standard output.
 pub fn say(line: &str) -> Result<(), Failure> {
     say_bytes(format!("{line}\n").as_bytes())
@@ -93,11 +84,5 @@ mod tests {
         assert_eq!(shown(b"a\0", false), "6100");
         assert_eq!(shown(&[0xff], false), "ff");
         assert_eq!(shown(b"a", true), "61");
-    }
-
-    #[test]
-    fn a_cut_line_says_so() {
-        assert_eq!(cut("Möser", 5), "Möser");
-        assert_eq!(cut("Möser, Paul", 5), "Mös..");
     }
 }
