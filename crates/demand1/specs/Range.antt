@@ -1,6 +1,6 @@
 -- Demand 1: where events lie, and what bytes outside the range have to do with a call. Assumes nothing.
 use mathlib.Core.Path.{_≡_}
-use mathlib.Core.List.{List, [], _∷_}
+use mathlib.Core.List.{List}
 use Prim.Native.Nat.{ℕ, _+_, _-_, _%_, _≤_, _<_}
 use lib.ListN.{length, take, drop}
 use Rattle.paper.specs.declared.Shape.{Shape}

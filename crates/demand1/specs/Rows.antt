@@ -1,19 +1,18 @@
 -- Demand 1: rows 0 to 7 of the table of refusals: given exactly when, and the image afterwards. Assumes nothing.
 use mathlib.Core.Path.{_≡_}
-use mathlib.Core.Bool.{Bool, true, false, cond, _||_}
+use mathlib.Core.Bool.{Bool, false}
 use mathlib.Core.List.{List, [], _∷_, _++_}
 use mathlib.Core.Logic.{_⊎_}
-use Prim.Native.Nat.{ℕ, _+_, _*_, _≤_, _<_}
-use lib.Dec.{eqb}
+use Prim.Native.Nat.{ℕ, _+_, _*_, _<_}
 use lib.ListN.{length}
 use Rattle.paper.specs.declared.Shape.{Shape}
 use Rattle.paper.specs.declared.Refusal.the-variants as refusal
 use Rattle.paper.specs.declared.Checked.the-variants.{Accepted}
 use Rattle.paper.specs.declared.Geometry.{Geometry}
-use Rattle.paper.specs.Chip.{roundUp, headerSize, Event, store, erase, copy, imageAfter, storeCount, before, Plan, Try, fails, gives}
-use Rattle.paper.specs.Scan.{Head, pageWalk, live, present, payloads}
-use Rattle.paper.specs.declared.PageState.the-variants.{Open, Corrupted}
-use Rattle.paper.specs.Pages.{state, same, setStart, next, from, youngest, oldest, repair}
+use Rattle.paper.specs.Chip.{headerSize, Event, store, erase, copy, imageAfter, storeCount, before, Plan, Try, gives}
+use Rattle.paper.specs.Scan.{Head, pageWalk, payloads}
+use Rattle.paper.specs.declared.PageState.the-variants.{Corrupted}
+use Rattle.paper.specs.Pages.{state, setStart, youngest, oldest, repair}
 use Rattle.paper.specs.Refusals.{check, Answer, done, shown, number, none, empty, refused}
 use Rattle.paper.specs.Calls.{spotStep, push, peek, pop, fit, findMaxFit, space, spaceLeft, eraseAll, Call, requested, limited}
 use Rattle.paper.specs.Fifo.{Full}

@@ -42,6 +42,8 @@ pub mod PeekPop
 pub mod OtherCalls
 pub mod Demand3
 pub mod Soundness
+pub mod HeadsFit
+pub mod RoomAgain
 pub mod Once
 pub mod Premises
 pub mod PremisesMet
