@@ -13,6 +13,7 @@ pub mod Tails
 pub mod ZeroedScan
 pub mod ZeroedHeader
 pub mod Payloads
+pub mod Addresses
 pub mod Views
 pub mod FirstFound
 pub mod RingShape
