@@ -22,6 +22,7 @@ use Rattle.demand1.proofs.SearchCopies.{heads-read, peek-does, pop-does
 use Rattle.demand1.proofs.Tails.{tail-stays}
 use Rattle.demand1.proofs.Shows.{lasts-front, peek-last, pop-last}
 use Rattle.demand1.proofs.SearchRows.{search-seen}
+use Rattle.demand1.proofs.CopyRows.{peek-copies, pop-copies}
 
 -- what is seen stands at the buffer's front
 module _ (g : Geometry) (im : List ℕ) (s : Shape) (e : check (length im) s ≡ Accepted g) (n k : ℕ) (hs : List Head) (w : Way g im hs)
@@ -47,6 +48,8 @@ of-buffer = record {
   tail-stays = tail-stays;
   peek-shows = peek-shows;
   pop-shows = pop-shows;
+  peek-copies = λ g im s e n. peek-copies (accepted-from (length im) s g e .laid) im refl n;
+  pop-copies = λ g im s e n. pop-copies (accepted-from (length im) s g e .laid) im refl n;
 }
 
 -- what is left behind the last whole word is, rounded up, one word at most

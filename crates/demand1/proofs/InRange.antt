@@ -11,7 +11,7 @@ use Rattle.paper.specs.declared.Checked.{Checked}
 use Rattle.paper.specs.declared.Checked.the-variants.{Accepted, Refused}
 use Rattle.paper.specs.declared.Geometry.{Geometry}
 use Rattle.paper.specs.declared.Refusal.the-variants as refusal
-use Rattle.paper.specs.Chip.{Event, storeCount, before, imageAfter, bufferAfter, Plan, plan}
+use Rattle.paper.specs.Chip.{part, Event, storeCount, before, imageAfter, bufferAfter, Plan, plan}
 use Rattle.paper.specs.Refusals.{geometryOf, check, Answer, refused}
 use Rattle.paper.specs.Calls.{Call, pushes, peeks, pops, fits, spaces, erasesAll, planned, call, planOf, requested, limited}
 use Rattle.laws.proofs.Accepted.{Laid, accepted-is, accepted-from}
@@ -88,20 +88,30 @@ limited-none k a = by (ltb k (storeCount []))
 
 -- ---- no say
 
+abbrev SameRange : Shape → List ℕ → List ℕ → Type 0
+SameRange s i j = part (s .start) (s .end - s .start) i ≡ part (s .start) (s .end - s .start) j
+
+-- the check says of an image what it says of the image that a call leaves
+same-check : (k : ℕ) (s : Shape) (im : List ℕ) (c : Call) → check (length (afterLimit k s im c)) s ≡ check (length im) s
+unfolding Held
+same-check k s im c = ap (λ (n : ℕ). check n s) (held s im c (λ p. limited k p .events) (limited-less k) (limited-none k) .size)
+
 module _ (n : ℕ) (s : Shape) (g : Geometry) (q : check n s ≡ Accepted g) where
   size-is : s .end - s .start ≡ g .pages * g .page
   size-is = omega (arith, range-end g, accepted-from n s g q .ends-at, accepted-from n s g q .starts-at)
 
   agree-alike : (im jm : List ℕ) → length im ≡ n → Agree s im jm → Alike g n im jm
-  agree-alike im jm l A = record { long = l; also = sym (A .0) ∙ l; same = rw (accepted-from n s g q .starts-at, ← size-is) (A .1) }
+  agree-alike im jm l A =
+      let t : check (length jm) s ≡ Accepted g = sym (A .0) ∙ ap (λ (x : ℕ). check x s) l ∙ q in
+      record { long = l; also = accepted-from (length jm) s g t .laid .ends; same = rw (accepted-from n s g q .starts-at, ← size-is) (A .1) }
 
-  alike-agree : (im jm : List ℕ) → Alike g n im jm → Agree s im jm
-  alike-agree im jm L = (L .long ∙ sym (L .also), rw (size-is, ← accepted-from n s g q .starts-at) (L .same))
+  alike-range : (im jm : List ℕ) → Alike g n im jm → SameRange s im jm
+  alike-range im jm L = rw (size-is, ← accepted-from n s g q .starts-at) (L .same)
 
 module _ (s : Shape) (im jm : List ℕ) (A : Agree s im jm) (c : Call) where
   no-say : requested s im c ≡ requested s jm c
   unfolding requested call
-  no-say = on (check (length im) s) refl ∙ ap (λ (x : ℕ). planned (check x s) (λ g. planOf g jm c)) (A .0)
+  no-say = on (check (length im) s) refl ∙ ap (λ (t : Checked). planned t (λ g. planOf g jm c)) (A .0)
     where
       on : (t : Checked) → check (length im) s ≡ t → planned t (λ g. planOf g im c) ≡ planned t (λ g. planOf g jm c)
       on (Refused r) q = refl
@@ -110,18 +120,18 @@ module _ (s : Shape) (im jm : List ℕ) (A : Agree s im jm) (c : Call) where
   -- what k stores leave
   module _ (k : ℕ) where
     -- of events that are the plan's, or none
-    same-image : Agree s (afterLimit k s im c) (imageAfter (geometryOf s) (limited k (requested s im c) .events) jm)
+    same-image : SameRange s (afterLimit k s im c) (imageAfter (geometryOf s) (limited k (requested s im c) .events) jm)
     unfolding requested call imageAfter
     same-image = on (check (length im) s) refl
       where
         on : (t : Checked) → check (length im) s ≡ t → (let es = limited k (planned t (λ g. planOf g im c)) .events in
-            Agree s (imageAfter (geometryOf s) es im) (imageAfter (geometryOf s) es jm))
-        on (Refused r) q = rw (limited-none k (refused r)) A
+            SameRange s (imageAfter (geometryOf s) es im) (imageAfter (geometryOf s) es jm))
+        on (Refused r) q = rw (limited-none k (refused r)) (A .1)
         on (Accepted g) q =
             let S = accepted-from (length im) s g q .laid in
             let h = limited-less k (Lies g) (planOf g im c) (events-lie g im s q c) in
             rw (accepted-is (length im) s g q)
-            (alike-agree (length im) s g q _ _ (alike-after S (limited k (planOf g im c) .events) (agree-alike (length im) s g q im jm refl A) h))
+            (alike-range (length im) s g q _ _ (alike-after S (limited k (planOf g im c) .events) (agree-alike (length im) s g q im jm refl A) h))
 
     same-buffer : (buf : List ℕ) → bufferLimit k s im c buf ≡ bufferAfter (geometryOf s) (limited k (requested s im c) .events) jm buf
     unfolding requested call bufferAfter
@@ -143,8 +153,8 @@ in-range = record {
   outside-limited = λ k s im c. held s im c (λ p. limited k p .events) (limited-less k) (limited-none k);
   no-say = no-say;
   no-say-image = λ k s im jm A c.
-      subst (λ (p : Plan Answer). Agree s (afterLimit k s im c) (imageAfter (geometryOf s) (limited k p .events) jm)) (no-say s im jm A c)
-      (same-image s im jm A c k);
+      let p : Plan Answer → Type 0 = λ p. SameRange s (afterLimit k s im c) (imageAfter (geometryOf s) (limited k p .events) jm) in
+      (same-check k s im c ∙ A .0 ∙ sym (same-check k s jm c), subst p (no-say s im jm A c) (same-image s im jm A c k));
   no-say-buffer = λ k s im jm A c buf.
       same-buffer s im jm A c k buf ∙ ap (λ (p : Plan Answer). bufferAfter (geometryOf s) (limited k p .events) jm buf) (no-say s im jm A c);
 }

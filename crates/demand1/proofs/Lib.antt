@@ -26,10 +26,12 @@ pub mod Turning
 pub mod PushSteps
 pub mod PushRows
 pub mod Meets
+pub mod HeadCopies
 pub mod Ways
 pub mod Searching
 pub mod WayRows
 pub mod SearchRows
+pub mod CopyRows
 pub mod Counts
 pub mod Cuts
 pub mod Demand1

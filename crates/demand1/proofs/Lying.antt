@@ -18,10 +18,10 @@ use Rattle.demand1.proofs.Pages.{layout}
 abbrev range : Geometry → List ℕ → List ℕ
 range g im = part (g .start) (g .pages * g .page) im
 
--- two images of n bytes that agree on the range
+-- two images that hold the range and agree on it; n is the length of the first
 pub record Alike (g : Geometry) (n : ℕ) (im jm : List ℕ) : Type 0 where
   pub long : length im ≡ n
-  pub also : length jm ≡ n
+  pub also : pageStart g (g .pages) ≤ length jm
   pub same : range g im ≡ range g jm
 
 -- what an event does to two images: both get the same bytes in the same place of the range
@@ -90,14 +90,15 @@ module _ {g : Geometry} {n : ℕ} (S : Laid g n) where
         let s : ℕ = P .place - g .start in
         let z : g .start + s ≡ P .place = omega (arith, P .low) in
         let k : P .place + length (P .bytes) ≤ length im = omega (arith, P .high, S .ends, A .long) in
-        let l : P .place + length (P .bytes) ≤ length jm = omega (arith, P .high, S .ends, A .also) in
-        let at : (x : List ℕ) → length x ≡ n → range g (put (P .place) (P .bytes) x) ≡ put s (P .bytes) (range g x) =
-        λ x e. ap (λ (a : ℕ). range g (put a (P .bytes) x)) (sym z)
-        ∙ part-around (g .start) (g .pages * g .page) s (P .bytes) x (omega (arith, range-end g, S .ends)) (omega (arith, range-end g, P .high, P .low)) in
+        let l : P .place + length (P .bytes) ≤ length jm = omega (arith, P .high, A .also) in
+        let at : (x : List ℕ) → pageStart g (g .pages) ≤ length x → range g (put (P .place) (P .bytes) x) ≡ put s (P .bytes) (range g x) =
+        λ x h. ap (λ (a : ℕ). range g (put a (P .bytes) x)) (sym z)
+        ∙ part-around (g .start) (g .pages * g .page) s (P .bytes) x (omega (arith, range-end g, h)) (omega (arith, range-end g, P .high, P .low)) in
         record {
           long = ap length (P .one) ∙ length-put (P .place) (P .bytes) im k ∙ A .long;
-          also = ap length (P .two) ∙ length-put (P .place) (P .bytes) jm l ∙ A .also;
-          same = ap (range g) (P .one) ∙ at im (A .long) ∙ ap (put s (P .bytes)) (A .same) ∙ sym (at jm (A .also)) ∙ ap (range g) (sym (P .two));
+          also = omega (arith, A .also, ap length (P .two), length-put (P .place) (P .bytes) jm l);
+          same = ap (range g) (P .one) ∙ at im (omega (arith, S .ends, A .long)) ∙ ap (put s (P .bytes)) (A .same)
+              ∙ sym (at jm (A .also)) ∙ ap (range g) (sym (P .two));
         }
 
   pub alike-after : (es : List Event) {im jm : List ℕ} → Alike g n im jm → Each (Lies g) es → Alike g n (imageAfter g es im) (imageAfter g es jm)
@@ -106,7 +107,7 @@ module _ {g : Geometry} {n : ℕ} (S : Laid g n) where
   alike-after (e ∷ es) A h = alike-after es (alike-by A e (h .0)) (h .1)
 
   pub alike-self : (im : List ℕ) → length im ≡ n → Alike g n im im
-  alike-self im e = record { long = e; also = e; same = refl }
+  alike-self im e = record { long = e; also = omega (arith, S .ends); same = refl }
 
   pub frame-after : (es : List Event) (im : List ℕ) → length im ≡ n → Each (Lies g) es → Frame g im (imageAfter g es im)
   unfolding imageAfter

@@ -49,7 +49,7 @@ module _ (g : Geometry) (n : ℕ) where
   -- ---- what it comes to
 
   -- by a header's tests: later is what the headers after it come to
-  abbrev meetBy : Bool → Bool → Bool → Head → Met → Met
+  abbrev pub meetBy : Bool → Bool → Bool → Head → Met → Met
   meetBy true over whole h later = later
   meetBy false true whole h later = long (roundUp (g .word) (h .len))
   meetBy false false true h later = met h
@@ -93,7 +93,7 @@ module _ (g : Geometry) (n : ℕ) where
 
   -- ---- which headers are passed, and where it stops
 
-  present-live : (h : Head) → present h ≡ true → live h ≡ true
+  pub present-live : (h : Head) → present h ≡ true → live h ≡ true
   unfolding present
   present-live h = by (live h) (eqb (dataCrc (h .body)) (h .crc))
     where

@@ -16,6 +16,7 @@ use Rattle.laws.proofs.Accepted.{Laid}
 use Rattle.laws.proofs.Marks.{same-is}
 use Rattle.demand1.specs.Range.{Each}
 use Rattle.demand1.specs.Shapes.{Iff}
+use Rattle.demand1.specs.Buffers.{copiesIn}
 use Rattle.demand1.specs.Rows.{repaired, Fails, onTheWay, Passed, TooLong, Seen, Way, direct, mended, Finished, OfSearch}
 use Rattle.demand1.proofs.Lists.{each-append, each-weaker, never}
 use Rattle.demand1.proofs.Pages.{state-same, walk-same}
@@ -25,6 +26,7 @@ use Rattle.demand1.proofs.Repairs.{Mended, opened, kept, repaired-long}
 use Rattle.demand1.proofs.Repairs as repairs
 use Rattle.demand1.proofs.Steps.{is-fails, fails-not, steps-gives, steps-again}
 use Rattle.demand1.proofs.Meets.{meet, seen}
+use Rattle.demand1.proofs.HeadCopies.{copies-join, Kept, copies-none, readOf}
 use Rattle.demand1.proofs.Ways.{outcome, Clears}
 use Rattle.demand1.proofs.Searching.{Went, search-went}
 use Rattle.demand1.proofs.WayRows.{row-none, seen-meet, row-short, row-seen, outcome-whole}
@@ -38,6 +40,7 @@ module _ {g : Geometry} {n : ℕ} (S : Laid g n) (im : List ℕ) (size : length 
   -- what is known of a search
   record Searched (p : Plan Outcome) : Type 0 where
     pub goes : {hs : List Head} → Way g im hs → p .answer ≡ outcome (meet g b hs)
+    pub copies : {hs : List Head} → Way g im hs → copiesIn (p .events) ≡ readOf g b hs
     pub clears : Each (Clears g im) (p .events)
     pub lost-is : p .answer ≡ spoilt → Fails (oldest g im) × Fails (oldest g (repaired g im))
     pub is-lost : Fails (oldest g im) × Fails (oldest g (repaired g im)) → p .answer ≡ spoilt
@@ -61,12 +64,16 @@ module _ {g : Geometry} {n : ℕ} (S : Laid g n) (im : List ℕ) (size : length 
   repair-clears : Each (Clears g im) (repair g im)
   repair-clears = repair-does g im (Clears g im) (S .some) (λ p h c. (h, inl (same-is (state g im p) Corrupted c)))
 
+  none-copied : copiesIn (repair g im) ≡ []
+  none-copied = copies-none (repair g im) (repair-does g im Kept (S .some) (λ p h c. tt))
+
   -- the oldest page is found in the image jm, which the events es leave
-  searched-from : (jm : List ℕ) (es : List Event) → length jm ≡ n → Each (Clears g im) es → ((e : Event) → Clears g jm e → Clears g im e)
+  searched-from : (jm : List ℕ) (es : List Event) → length jm ≡ n → Each (Clears g im) es → copiesIn es ≡ [] → ((e : Event) → Clears g jm e → Clears g im e)
       → (old : ℕ) → oldest g jm ≡ gives old → ((hs : List Head) → Way g im hs → onTheWay g jm old (from g old) ≡ hs)
       → (Fails (oldest g im) × Fails (oldest g (repaired g im)) → ⊥)
       → Searched (plan (es ++ searchOn g b (gives old) jm .events) (searchOn g b (gives old) jm .answer))
-  searched-from jm es l c back old e way not = record {
+  searched-from jm es l c none back old e way not = record {
+    copies = λ {hs} w. copies-join es found ∙ ap (λ (x : List Event). x ++ copiesIn found) none ∙ W .copies ∙ ap (readOf g b) (way hs w);
     goes = λ {hs} w. W .answered ∙ ap (λ (x : List Head). outcome (meet g b x)) (way hs w);
     clears = each-append (Clears g im) es found c (each-weaker (Clears g jm) (Clears g im) back found (W .clears));
     lost-is = λ q. absurd (whole q);
@@ -84,15 +91,18 @@ module _ {g : Geometry} {n : ℕ} (S : Laid g n) (im : List ℕ) (size : length 
       whole q = outcome-whole (meet g b (onTheWay g jm old (from g old))) (sym (W .answered) ∙ q)
 
   searched-once : (old : ℕ) → oldest g im ≡ gives old → Searched (searchOn g b (gives old) im)
-  searched-once old e = searched-from im [] size tt (λ x h. h) old e (λ hs w. by w) (λ k. fails-not (k .0) e)
+  searched-once old e = searched-from im [] size tt none-here (λ x h. h) old e (λ hs w. by w) (λ k. fails-not (k .0) e)
     where
+      none-here : copiesIn [] ≡ []
+      none-here = copies-none [] tt
+
       by : {hs : List Head} → Way g im hs → onTheWay g im old (from g old) ≡ hs
       by (direct {old = o} f) = let z : old ≡ o = cc in ap (λ (x : ℕ). onTheWay g im x (from g x)) z
       by (mended f q) = absurd (fails-not f e)
 
   searched-mended : {u : Unit {0}} → oldest g im ≡ fails u → (old : ℕ) → oldest g (repaired g im) ≡ gives old
       → Searched (plan (repair g im ++ searchOn g b (gives old) (repaired g im) .events) (searchOn g b (gives old) (repaired g im) .answer))
-  searched-mended v old e = searched-from (repaired g im) (repair g im) (repaired-long S im size) repair-clears clears-before old e
+  searched-mended v old e = searched-from (repaired g im) (repair g im) (repaired-long S im size) repair-clears none-copied clears-before old e
       (λ hs w. by w) (λ k. fails-not (k .1) e)
     where
       by : {hs : List Head} → Way g im hs → onTheWay g (repaired g im) old (from g old) ≡ hs
@@ -103,6 +113,7 @@ module _ {g : Geometry} {n : ℕ} (S : Laid g n) (im : List ℕ) (size : length 
   searched-lost : {u v : Unit {0}} → oldest g im ≡ fails u → oldest g (repaired g im) ≡ fails v → Searched (plan (repair g im) spoilt)
   searched-lost e f = record {
     goes = λ w. absurd (by w);
+    copies = λ w. absurd (by w);
     clears = repair-clears;
     lost-is = λ q. (is-fails e, is-fails f);
     is-lost = λ k. refl;
@@ -182,6 +193,9 @@ module _ {g : Geometry} {n : ℕ} (S : Laid g n) (im : List ℕ) (size : length 
   -- an item that is seen on the way is what the search comes to
   pub search-seen : {hs : List Head} {k : ℕ} → Way g im hs → (seen : Seen g b hs k) → search g im b .answer ≡ this (seen .head)
   search-seen {hs} w T = searched .goes w ∙ ap outcome (seen-meet g b hs T)
+
+  pub search-copies : {hs : List Head} → Way g im hs → copiesIn (search g im b .events) ≡ readOf g b hs
+  search-copies w = searched .copies w
 
   pub of-peek : OfSearch g im b (peek g im b)
   unfolding peek bind

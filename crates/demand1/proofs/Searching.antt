@@ -1,7 +1,7 @@
 -- A search from the oldest page goes its way to the end: stuck before a Corrupted page, it ends there after the repair. Assumes nothing.
 use mathlib.Core.Path.{_≡_, refl, sym, ap, _∙_, subst}
 use mathlib.Core.Bool.{Bool, true}
-use mathlib.Core.List.{List, [], _++_}
+use mathlib.Core.List.{List, [], _++_, append-nil}
 use mathlib.Core.Logic.{_⊎_, inl, inr}
 use Prim.Native.Nat.{ℕ, suc, _-_, _*_, _<_}
 use native.Mathlib.Omega.{arith}
@@ -16,11 +16,13 @@ use Rattle.laws.proofs.Accepted.{Laid}
 use Rattle.laws.proofs.Marks.{same-is}
 use Rattle.laws.proofs.Ring.{next-in, turn-zero}
 use Rattle.demand1.specs.Range.{Each}
+use Rattle.demand1.specs.Buffers.{copiesIn}
 use Rattle.demand1.specs.Rows.{repaired, onTheWay}
 use Rattle.demand1.proofs.Lists.{each-append, never}
 use Rattle.demand1.proofs.Pages.{state-same}
 use Rattle.demand1.proofs.Does.{repair-does}
 use Rattle.demand1.proofs.Meets.{meet}
+use Rattle.demand1.proofs.HeadCopies.{copies-join, Kept, copies-none, readOf}
 use Rattle.demand1.proofs.Repairs.{Mended, opened, kept, mended}
 use Rattle.demand1.proofs.Found.{old-sound}
 use Rattle.demand1.proofs.Steps.{steps-gives, steps-fails}
@@ -68,6 +70,7 @@ module _ {g : Geometry} {n : ℕ} (S : Laid g n) (im : List ℕ) (b old : ℕ) (
   -- a search from the oldest page, with its repair
   pub record Went (p : Plan Outcome) : Type 0 where
     pub clears : Each (Clears g im) (p .events)
+    pub copies : copiesIn (p .events) ≡ readOf g b (onTheWay g im old (from g old))
     pub answered : p .answer ≡ outcome (meet g b (onTheWay g im old (from g old)))
 
   pub search-went : length im ≡ n → oldest g im ≡ gives old → Went (searchOn g b (gives old) im)
@@ -84,15 +87,21 @@ module _ {g : Geometry} {n : ℕ} (S : Laid g n) (im : List ℕ) (b old : ℕ) (
       C = step-comes true size e
 
       settle : {es : List Event} {t : Try Stand Outcome} → withRepair g step at im ≡ plan es t → Each (Clears g im) es
+          → copiesIn es ≡ readOf g b (onTheWay g im old (from g old))
           → settled spoilt t ≡ outcome (meet g b (onTheWay g im old (from g old))) → Went (searchOn g b (gives old) im)
-      settle {es} {t} q f a = rw q (record { clears = each-append (Clears g im) es [] f tt; answered = a })
+      settle {es} {t} q f r a = rw q (record { clears = each-append (Clears g im) es [] f tt; copies = ap copiesIn (append-nil es) ∙ r; answered = a })
+
+      none : (j : List ℕ) → copiesIn (repair g j) ≡ []
+      none j = copies-none (repair g j) (repair-does g j Kept (S .some) (λ p h c. tt))
 
       by : Came S im b old ho (onTheWay g im old (from g old)) im (step at im) → Went (searchOn g b (gives old) im)
-      by (ends a) = settle (steps-gives g step at im a) (C .clears) refl
+      by (ends a) = settle (steps-gives g step at im a) (C .clears) (C .copies) refl
       by (stuck q h a m s K) =
           let es : List Event = step at im .events in
           let j : List ℕ = imageAfter g es im in
           let l = stops-open true (repaired g j) q (repaired-open j (K .long) (next g q) (next-in g q h) s) in
           settle (steps-fails g step at im a ∙ ap (λ (p : Plan (Try Stand Outcome)). plan (es ++ (repair g j ++ p .events)) (p .answer)) l)
           (each-append (Clears g im) es (repair g j ++ []) (C .clears) (each-append (Clears g im) (repair g j) [] (repair-clears j K) tt))
+          (copies-join es (repair g j ++ []) ∙ ap (λ (x : List Event). copiesIn es ++ x) (ap copiesIn (append-nil (repair g j)) ∙ none j)
+          ∙ append-nil (copiesIn es) ∙ C .copies)
           (sym (ap outcome m))

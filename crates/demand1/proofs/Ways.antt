@@ -1,7 +1,7 @@
 -- A search reads each page as it was when the search began, and so goes its way; its erases are of finished pages. Assumes nothing.
 use mathlib.Core.Path.{_≡_, refl, sym, ap, _∙_, subst}
 use mathlib.Core.Bool.{Bool, true, false, cond, _||_, or-true}
-use mathlib.Core.List.{List, [], _++_}
+use mathlib.Core.List.{List, [], _++_, append-nil}
 use mathlib.Core.Logic.{_⊎_, inl, inr}
 use Prim.Native.Nat.{ℕ, zero, suc, _+_, _*_, _≤_, _<_}
 use native.Mathlib.Omega.{arith}
@@ -21,12 +21,14 @@ use Rattle.laws.proofs.Ring.{turn, turn-full, turn-lt, turn-once, next-turn}
 use Rattle.laws.proofs.Sides.{Apart, is, differs, apart}
 use Rattle.laws.proofs.Standing.{page-of-start, walk-on-start}
 use Rattle.demand1.specs.Range.{Each}
+use Rattle.demand1.specs.Buffers.{copiesIn}
 use Rattle.demand1.specs.Rows.{onTheWay}
 use Rattle.demand1.proofs.Lists.{each-append, each-weaker, never}
 use Rattle.demand1.proofs.Pages.{InData, inner, start-in, state-same, walk-on-same}
 use Rattle.demand1.proofs.Does.{left-does}
 use Rattle.demand1.proofs.Frames.{erase-long, erase-other, erase-open}
 use Rattle.demand1.proofs.Meets.{Copied, copied-image, heads-copied, meet, meets, thenMeet, meet-append, passed-payloads, Meets, all, tooLong, seen, meet-is}
+use Rattle.demand1.proofs.HeadCopies.{copies-join, Kept, copies-none, readOf, copies-read, thenRead, read-append}
 
 -- what a search comes to, by what its headers come to
 abbrev pub outcome : Met → Outcome
@@ -66,6 +68,7 @@ module _ {g : Geometry} {n : ℕ} (S : Laid g n) (im : List ℕ) (b old : ℕ) (
 
   pub record Comes (hs : List Head) (cur : List ℕ) (p : Plan (Try Stand Outcome)) : Type 0 where
     pub clears : Each (Clears g im) (p .events)
+    pub copies : copiesIn (p .events) ≡ readOf g b hs
     pub came : Came hs cur p
 
   -- ---- a page is erased
@@ -105,6 +108,9 @@ module _ {g : Geometry} {n : ℕ} (S : Laid g n) (im : List ℕ) (b old : ℕ) (
   abbrev left : Bool → ℕ → List Event
   left clears p = cond clears (erasePage g p) []
 
+  left-none : (clears : Bool) (p : ℕ) → copiesIn (left clears p) ≡ []
+  left-none clears p = copies-none (left clears p) (left-does g Kept clears p (λ t. tt))
+
   left-ahead : (clears : Bool) (i : ℕ) → i < g .pages → (cur : List ℕ) → Ahead i cur → Ahead (suc i) (imageAfter g (left clears (turn g old i)) cur)
   unfolding imageAfter erasePage
   left-ahead true i k cur A = erase-ahead i k cur A
@@ -132,7 +138,7 @@ module _ {g : Geometry} {n : ℕ} (S : Laid g n) (im : List ℕ) (b old : ℕ) (
       → Known cur → Next cur (next g p)
       → (clears ≡ true → payloads (pageWalk g im p .heads) ≡ []) → (let i = imageAfter g (left clears p) cur in Comes later i (further i))
       → Comes (cond (stops im (next g p)) [] later) cur (leavePage g old clears p further cur)
-  unfolding leavePage meet bind imageAfter
+  unfolding leavePage meet bind imageAfter copiesIn readOf
   come-leave clears p h cur further later K (round e c) none C =
       rw (
         c,
@@ -140,7 +146,7 @@ module _ {g : Geometry} {n : ℕ} (S : Laid g n) (im : List ℕ) (b old : ℕ) (
         or-true (same (state g im (next g p)) Open || same (state g im (next g p)) Corrupted),
         or-true (same (state g cur (next g p)) Open),
       )
-      (record { clears = tt; came = ends refl })
+      (record { clears = tt; copies = refl; came = ends refl })
   come-leave clears p h cur further later K (onward e) none C =
       rw e (by (same (state g im (next g p)) Open) (same (state g im (next g p)) Corrupted) (eqb (next g p) old) refl)
     where
@@ -160,13 +166,14 @@ module _ {g : Geometry} {n : ℕ} (S : Laid g n) (im : List ℕ) (b old : ℕ) (
       by : (o c r : Bool) → same (state g im (next g p)) Corrupted ≡ c
           → Comes (cond (o || c || r) [] later) cur
           (cond c (plan [] (fails (afterPage p))) (cond (o || r) (plan [] (gives nothing)) (andThen g cur es further)))
-      by true true r q = record { clears = tt; came = stuck p h refl refl (e ∙ same-is (state g im (next g p)) Corrupted q) quiet }
-      by false true r q = record { clears = tt; came = stuck p h refl refl (e ∙ same-is (state g im (next g p)) Corrupted q) quiet }
-      by true false r q = record { clears = tt; came = ends refl }
-      by false false true q = record { clears = tt; came = ends refl }
+      by true true r q = record { clears = tt; copies = refl; came = stuck p h refl refl (e ∙ same-is (state g im (next g p)) Corrupted q) quiet }
+      by false true r q = record { clears = tt; copies = refl; came = stuck p h refl refl (e ∙ same-is (state g im (next g p)) Corrupted q) quiet }
+      by true false r q = record { clears = tt; copies = refl; came = ends refl }
+      by false false true q = record { clears = tt; copies = refl; came = ends refl }
       by false false false q = record {
         clears =
             each-append (Clears g im) es (further i .events) (left-does g (Clears g im) clears p (λ t. (h, inr (none t)))) (C .clears);
+        copies = copies-join es (further i .events) ∙ ap (λ (x : List Event). x ++ copiesIn (further i .events)) (left-none clears p) ∙ C .copies;
         came = turned (C .came);
       }
 
@@ -181,19 +188,30 @@ module _ {g : Geometry} {n : ℕ} (S : Laid g n) (im : List ℕ) (b old : ℕ) (
     abbrev reads : List Event
     reads = readHeads g b hs cur .events
 
-    copies : Each Copied reads
-    copies = heads-copied g b hs cur
+    only-copies : Each Copied reads
+    only-copies = heads-copied g b hs cur
 
     done : Each (Clears g im) reads
-    done = each-weaker Copied (Clears g im) (copied-clears g im) reads copies
+    done = each-weaker Copied (Clears g im) (copied-clears g im) reads only-copies
 
     bound : (m : Met) → meet g b hs ≡ m
         → bind g cur (readHeads g b hs cur) (onMet further) ≡ plan (reads ++ onMet further m cur .events) (onMet further m cur .answer)
     unfolding bind
-    bound m q = rw (meets g b hs cur, q, copied-image g reads cur copies)
+    bound m q = rw (meets g b hs cur, q, copied-image g reads cur only-copies)
 
     joined : (later : List Head) (m : Met) → meet g b hs ≡ m → meet g b (hs ++ later) ≡ thenMeet m (meet g b later)
     joined later m q = meet-append g b hs later ∙ ap (λ (x : Met). thenMeet x (meet g b later)) q
+
+    -- what is copied here, and then
+    read-then : (es : List Event) → copiesIn (reads ++ es) ≡ readOf g b hs ++ copiesIn es
+    read-then es = copies-join reads es ∙ ap (λ (x : List Event). x ++ copiesIn es) (copies-read g b hs cur)
+
+    read-only : (later : List Head) (m : Met) → meet g b hs ≡ m → ((es fs : List Event) → thenRead g b m es fs ≡ es)
+        → copiesIn (reads ++ []) ≡ readOf g b (hs ++ later)
+    unfolding copiesIn
+    read-only later m q f =
+        read-then [] ∙ append-nil (readOf g b hs) ∙ sym (f (readOf g b hs) (readOf g b later))
+        ∙ ap (λ (x : Met). thenRead g b x (readOf g b hs) (readOf g b later)) (sym q) ∙ sym (read-append g b hs later)
 
     come-heads : (later : List Head) → (payloads hs ≡ [] → Comes later cur (further cur))
         → Comes (hs ++ later) cur (bind g cur (readHeads g b hs cur) (onMet further))
@@ -201,7 +219,7 @@ module _ {g : Geometry} {n : ℕ} (S : Laid g n) (im : List ℕ) (b old : ℕ) (
     come-heads later f = by (meet g b hs) refl
       where
         after : (es : List Event) → imageAfter g (reads ++ es) cur ≡ imageAfter g es cur
-        after es = image-append g reads es cur ∙ ap (imageAfter g es) (copied-image g reads cur copies)
+        after es = image-append g reads es cur ∙ ap (imageAfter g es) (copied-image g reads cur only-copies)
 
         come : meet g b hs ≡ passed → Came later cur (further cur) → Came (hs ++ later) cur (plan (reads ++ further cur .events) (further cur .answer))
         come q (ends a) = ends (a ∙ ap (λ (m : Met). gives (outcome m)) (sym (joined later passed q)))
@@ -212,12 +230,22 @@ module _ {g : Geometry} {n : ℕ} (S : Laid g n) (im : List ℕ) (b old : ℕ) (
             let C = f (none-present hs (meet-is g b hs) q) in
             subst (Comes (hs ++ later) cur) (sym (bound passed q)) (record {
               clears = each-append (Clears g im) reads (further cur .events) done (C .clears);
+              copies = read-then (further cur .events) ∙ ap (λ (x : List Event). readOf g b hs ++ x) (C .copies)
+                  ∙ ap (λ (x : Met). thenRead g b x (readOf g b hs) (readOf g b later)) (sym q) ∙ sym (read-append g b hs later);
               came = come q (C .came);
             })
         by (long k) q = subst (Comes (hs ++ later) cur) (sym (bound (long k) q))
-            (record { clears = each-append (Clears g im) reads [] done tt; came = ends (ap (λ (m : Met). gives (outcome m)) (sym (joined later (long k) q))) })
+            (record {
+              clears = each-append (Clears g im) reads [] done tt;
+              copies = read-only later (long k) q (λ es fs. refl);
+              came = ends (ap (λ (m : Met). gives (outcome m)) (sym (joined later (long k) q)));
+            })
         by (met h) q = subst (Comes (hs ++ later) cur) (sym (bound (met h) q))
-            (record { clears = each-append (Clears g im) reads [] done tt; came = ends (ap (λ (m : Met). gives (outcome m)) (sym (joined later (met h) q))) })
+            (record {
+              clears = each-append (Clears g im) reads [] done tt;
+              copies = read-only later (met h) q (λ es fs. refl);
+              came = ends (ap (λ (m : Met). gives (outcome m)) (sym (joined later (met h) q)));
+            })
 
   -- ---- all the way
 
@@ -239,8 +267,8 @@ module _ {g : Geometry} {n : ℕ} (S : Laid g n) (im : List ℕ) (b old : ℕ) (
 
     pub ways : (k i : ℕ) → i + k ≡ g .pages → (cur : List ℕ) → Ahead i cur
         → Comes (onTheWay g im old (around g k (turn g old i))) cur (nextItem g b old clears (2 * k) (fromAddress (dataStart g (turn g old i))) cur)
-    unfolding onTheWay around nextItem meet
-    ways zero i e cur A = record { clears = tt; came = ends refl }
+    unfolding onTheWay around nextItem meet copiesIn readOf
+    ways zero i e cur A = record { clears = tt; copies = refl; came = ends refl }
     ways (suc k) i e cur A =
         let p : ℕ = turn g old i in
         let z : 2 * suc k ≡ suc (suc (2 * k)) = omega arith in

@@ -1,25 +1,51 @@
 -- Demand 1: what a call leaves in the data buffer; and the places where the Rust could say LogicBug. Assumes nothing.
 use mathlib.Core.Path.{_≡_}
-use mathlib.Core.Bool.{Bool, true}
-use mathlib.Core.List.{List, List·Memᴰ}
+use mathlib.Core.Bool.{Bool, true, cond}
+use mathlib.Core.List.{List, [], _∷_, _++_, List·Memᴰ}
 use Prim.Native.Nat.{ℕ, _+_, _-_, _≤_, _<_}
 use lib.ListN.{length, take, drop}
 use Rattle.paper.specs.declared.Shape.{Shape}
 use Rattle.paper.specs.declared.Checked.the-variants.{Accepted, Refused}
 use Rattle.paper.specs.declared.Geometry.{Geometry}
-use Rattle.paper.specs.Chip.{roundUp, roundDown, headerSize, Event, store, erase, copy, before, bufferAfter}
+use Rattle.paper.specs.Chip.{roundUp, roundDown, headerSize, Event, store, erase, copy, before, bufferAfter, Plan}
 use Rattle.paper.specs.Scan.{Head, live}
 use Rattle.paper.specs.declared.Refusal.{Refusal}
-use Rattle.paper.specs.Refusals.{geometryOf, check, shown}
+use Rattle.paper.specs.declared.Refusal.the-variants as refusal
+use Rattle.paper.specs.Refusals.{geometryOf, check, Answer, shown, refused}
 use Rattle.paper.specs.Calls.{met, readHeads, peek, pop, Call, pushes, planOf, requested}
 use Rattle.demand1.specs.Range.{Each}
-use Rattle.demand1.specs.Rows.{Way, Seen}
+use Rattle.demand1.specs.Rows.{Way, Passed, TooLong, Seen}
 
 -- a copy takes at most m bytes
 abbrev pub Copies : ℕ → Event → Type 0
 Copies m (store a word) = Unit {0}
 Copies m (erase p) = Unit {0}
 Copies m (copy a n) = n ≤ m
+
+-- the copies among events, in order
+unfoldable pub copiesIn : List Event → List Event
+copiesIn [] = []
+copiesIn (store a word ∷ es) = copiesIn es
+copiesIn (erase p ∷ es) = copiesIn es
+copiesIn (copy a n ∷ es) = copy a n ∷ copiesIn es
+
+-- the copies of the rounded payloads of the live headers of a list, in order
+unfoldable pub copiesOf : Geometry → List Head → List Event
+copiesOf g [] = []
+copiesOf g (h ∷ hs) = let later = copiesOf g hs in cond (live h) (copy (h .place + headerSize g) (roundUp (g .word) (h .len)) ∷ later) later
+
+-- "Peek and pop copy the rounded payload of each live header read, in order, .. torn ones too": of a plan that peeks or pops with a buffer of
+-- n bytes. It reads the headers on its way up to the first that it does not go past
+pub record OfCopies (g : Geometry) (im : List ℕ) (n : ℕ) (p : Plan Answer) : Type 0 where
+  -- empty: all that are on the way
+  pub none : {hs : List Head} → Way g im hs → Each (Passed g n) hs → copiesIn (p .events) ≡ copiesOf g hs
+  -- row 4: those before the one that is too long
+  pub short : {hs : List Head} → Way g im hs → (k : ℕ) (long : TooLong g n hs k) → copiesIn (p .events) ≡ copiesOf g (long .stops .front)
+  -- a slip is shown: those before it, and it
+  pub seen : {hs : List Head} → Way g im hs → (k : ℕ) (seen : Seen g n hs k)
+      → copiesIn (p .events) ≡ copiesOf g (seen .stops .front ++ (seen .head ∷ []))
+  -- row 5: none
+  pub corrupted : p .answer ≡ refused refusal.Corrupted → copiesIn (p .events) ≡ []
 
 pub record OfBuffer : Type 0 where
   -- "On refusals 2, 3 and 9 to 17 the data buffer keeps its bytes": a push copies nothing, and a refused shape does nothing
@@ -37,6 +63,9 @@ pub record OfBuffer : Type 0 where
       → (seen : Seen g n hs k) (buf : List ℕ) → n ≤ length buf → take k (bufferAfter g (peek g im n .events) im buf) ≡ seen .head .body
   pub pop-shows : (g : Geometry) (im : List ℕ) (s : Shape) → check (length im) s ≡ Accepted g → (n k : ℕ) (hs : List Head) → Way g im hs
       → (seen : Seen g n hs k) (buf : List ℕ) → n ≤ length buf → take k (bufferAfter g (pop g im n .events) im buf) ≡ seen .head .body
+  -- what they copy
+  pub peek-copies : (g : Geometry) (im : List ℕ) (s : Shape) → check (length im) s ≡ Accepted g → (n : ℕ) → OfCopies g im n (peek g im n)
+  pub pop-copies : (g : Geometry) (im : List ℕ) (s : Shape) → check (length im) s ≡ Accepted g → (n : ℕ) → OfCopies g im n (pop g im n)
 
 -- a read is a copy of the rounded payload of a live header of a list
 abbrev pub ReadOf : Geometry → List Head → Event → Type 0

@@ -23,9 +23,9 @@ pub record Outside (s : Shape) (i o : List ℕ) : Type 0 where
   pub below : take (s .start) o ≡ take (s .start) i
   pub above : drop (s .end) o ≡ drop (s .end) i
 
--- two images of one length that agree on the range
+-- two images that agree on the range, and of which the check says the same: their lengths may differ
 abbrev pub Agree : Shape → List ℕ → List ℕ → Type 0
-Agree s i j = (length i ≡ length j) × (part (s .start) (s .end - s .start) i ≡ part (s .start) (s .end - s .start) j)
+Agree s i j = (check (length i) s ≡ check (length j) s) × (part (s .start) (s .end - s .start) i ≡ part (s .start) (s .end - s .start) j)
 
 -- the image that a call leaves, whole, and with a limit of k stores; and the buffer
 abbrev pub after : Shape → List ℕ → Call → List ℕ

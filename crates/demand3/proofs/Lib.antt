@@ -13,6 +13,7 @@ pub mod Tails
 pub mod ZeroedScan
 pub mod ZeroedHeader
 pub mod Payloads
+pub mod Addresses
 pub mod Views
 pub mod FirstFound
 pub mod RingShape
@@ -42,6 +43,8 @@ pub mod PeekPop
 pub mod OtherCalls
 pub mod Demand3
 pub mod Soundness
+pub mod HeadsFit
+pub mod RoomAgain
 pub mod Once
 pub mod Premises
 pub mod PremisesMet

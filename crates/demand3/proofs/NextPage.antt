@@ -1,6 +1,7 @@
 -- The page after one whose heads were all passed: a search stops before it, or erases the page and goes on. Assumes nothing.
 use mathlib.Core.Bool.{Bool, true, false, _||_, or-true}
 use mathlib.Core.List.{List, [], _∷_, _++_}
+use mathlib.Core.Logic.{_⊎_, inl, inr}
 use mathlib.Core.Path.{_≡_, refl, sym, ap, _∙_}
 use Prim.Native.Nat.{ℕ, _≤_, _<_}
 use native.Mathlib.Omega.{arith}
@@ -23,8 +24,12 @@ use Rattle.demand3.proofs.Invariant.{Inv, turn-in, open-empty}
 abbrev pub endsAt : Geometry → List ℕ → ℕ → ℕ → Bool
 endsAt g jm x old = same (state g jm x) Open || eqb x old
 
+-- no Closed page is before the current one, or that is Open
+abbrev pub Roomy : Geometry → List ℕ → ℕ → ℕ → Type 0
+Roomy g jm o b = (b ≡ 0) ⊎ (state g jm (turn g o b) ≡ Open)
+
 pub data Ahead (g : Geometry) (jm : List ℕ) (o b old : ℕ) : Type 0 where
-  stops : endsAt g jm (turn g o 1) old ≡ true → run g jm o 1 b ≡ [] → Ahead g jm o b old
+  stops : endsAt g jm (turn g o 1) old ≡ true → run g jm o 1 b ≡ [] → Roomy g jm o b → Ahead g jm o b old
   leads : endsAt g jm (turn g o 1) old ≡ false → 0 < b → (state g jm (turn g o 1) ≡ Open → ⊥) → Ahead g jm o b old
 
 -- page old is none of the b pages after o
@@ -49,7 +54,7 @@ module _ {g : Geometry} {jm : List ℕ} {o b : ℕ} (I : Inv g jm o b) {old : �
           used PartialOpen s refl h (λ e₁. let z : _≡_ {A = ℕ} 0 1 = cc in omega arith)
       now one h (openAfter e k) =
           let s : state g jm (turn g o 1) ≡ Open = rw (← one) e in
-          stops (rw s) (rw one (ap (λ (l : List (List ℕ)). l ++ []) (open-empty I (turn g o 1) (turn-in I 1 (omega (arith, S .run-in))) s)))
+          stops (rw s) (rw one (ap (λ (l : List (List ℕ)). l ++ []) (open-empty I (turn g o 1) (turn-in I 1 (omega (arith, S .run-in))) s))) (inr e)
       now one h (openAll e k m) = let z : ⊥ = omega arith in absurd z
 
       on : 0 < b → Side 1 b → Ahead g jm o b old
@@ -60,12 +65,12 @@ module _ {g : Geometry} {jm : List ℕ} {o b : ℕ} (I : Inv g jm o b) {old : �
       by (below h) s = on h (side 1 b)
       by (above h) (below l) =
           let z : b ≡ 0 = omega arith in
-          stops (rw (S .opens 1 (omega arith) l)) (rw z)
+          stops (rw (S .opens 1 (omega arith) l)) (rw z) (inl z)
       by (above h) (above l) =
           let z : b ≡ 0 = omega arith in
           let w : 1 ≡ g .pages = omega (arith, S .run-in) in
           let t : turn g o 1 ≡ old = ap (turn g o) w ∙ turn-full g o (S .old-in) ∙ F .sole (sym w) in
-          stops (rw (t, eq-eqb old old refl) (or-true (same (state g jm old) Open))) (rw z)
+          stops (rw (t, eq-eqb old old refl) (or-true (same (state g jm old) Open))) (rw z) (inl z)
 
   nx : next g o ≡ turn g o 1
   nx = next-is g o (S .old-in)

@@ -219,7 +219,7 @@ once {g} {im} I gh (peeks buf) Fs = steady-once g im (peeks buf) (peekpop.peek-p
 once {g} {im} I gh (pops buf) Fs = by (peekpop.sought I buf .result)
   where
     by : Result g (waiting g im) im (length buf) (peekpop.sought I buf .events) (peekpop.sought I buf .out) → ChangesOnce g im (pops buf)
-    by (isNothing a z) = steady-once g im (pops buf) (peekpop.idle-plan I buf empty (ap (popped g) a) (ap shownBy a)) (peekpop.sought I buf .steady) refl
+    by (isNothing a z r) = steady-once g im (pops buf) (peekpop.idle-plan I buf empty (ap (popped g) a) (ap shownBy a)) (peekpop.sought I buf .steady) refl
     by (isShort k a) =
         let p = peekpop.idle-plan I buf (refused (refusal.BufferTooSmall k)) (ap (popped g) a) (ap shownBy a) in
         steady-once g im (pops buf) p (peekpop.sought I buf .steady) refl

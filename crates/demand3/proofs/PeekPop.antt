@@ -78,7 +78,7 @@ module _ {g : Geometry} {im : List ℕ} {o b : ℕ} (I : Inv g im o b) (buf : Li
     where
       by : Result g (waiting g im) im (length buf) E (sought .out)
           → Plain g im (peeks buf) (shownBy (sought .out)) (bufferAfter g E im buf) (waiting g im) (waiting g im)
-      by (isNothing a z) = rw (a, z) (showsNone the-way (peek-rows .none the-way .0 (peek-says a)))
+      by (isNothing a z r) = rw (a, z) (showsNone the-way (peek-rows .none the-way .0 (peek-says a)))
       by (isShort k a) = rw a (showsNot the-way (peek-rows .short the-way k .0 (peek-says a)))
       by (isThis h a X) =
           let v = peek-rows .seen the-way (h .len) .0 (peek-says a) in
@@ -171,7 +171,7 @@ module _ {g : Geometry} {im : List ℕ} {o b : ℕ} (I : Inv g im o b) (buf : Li
   pop-step gh w Fr = by (sought .result)
     where
       by : Result g (waiting g im) im (length buf) E (sought .out) → Step g im (pops buf) w
-      by (isNothing a z) = steady-step im (pops buf) (idle-plan empty (ap (popped g) a) (ap shownBy a)) (sought .steady)
+      by (isNothing a z r) = steady-step im (pops buf) (idle-plan empty (ap (popped g) a) (ap shownBy a)) (sought .steady)
           (rw z (takesNone the-way (pop-rows .none the-way .0 (pop-says a)))) w
       by (isShort k a) =
           let no : Answer = refused (refusal.BufferTooSmall k) in

@@ -12,7 +12,7 @@ use Rattle.paper.specs.Scan.{Head, Walk, pageWalk, payloads, present}
 use Rattle.paper.specs.Pages.{next, state}
 use Rattle.paper.specs.Calls.{passed, long, met, readHeads, Stand, fromAddress, afterPage, Outcome, nothing, short, this, spoilt, onMet, leavePage, nextItem, nextStep, startStep, searchOn, search}
 use Rattle.paper.specs.Waiting.{waiting}
-use Rattle.laws.proofs.Events.{buffer-append}
+use Rattle.laws.proofs.Events.{image-append, buffer-append}
 use Rattle.laws.proofs.Ring.{turn, turn-zero, turn-suc, turn-apart, next-is}
 use Rattle.laws.proofs.Rounding.{round-up-ge}
 use Rattle.laws.proofs.Standing.{read-start}
@@ -25,7 +25,7 @@ use Rattle.demand3.proofs.Invariant.{Inv, listed}
 use Rattle.demand3.proofs.Erasing.{erase-inv, erase-list}
 use Rattle.demand3.proofs.Steady.{Keeps, Steady, rests, goes, erased, steady-append}
 use Rattle.demand3.proofs.Copies.{Copies, noCopies, aCopy, copies-append, copies-image, copies-steady, copies-avoid, image-on, buffer-on, last-copy, reads, HeadsRead, allPassed, tooSmall, gotIt, heads-read}
-use Rattle.demand3.proofs.NextPage.{endsAt, Ahead, stops, leads, Behind, ahead, leave-stop, leave-on}
+use Rattle.demand3.proofs.NextPage.{endsAt, Roomy, Ahead, stops, leads, Behind, ahead, leave-stop, leave-on}
 use Rattle.demand3.proofs.Popping.{FirstPresent, first-in, not-empty, body-at, body-length}
 
 -- the events es have come from the image jm to the first present item h, and shown it
@@ -35,9 +35,16 @@ pub record Found (g : Geometry) (jm : List ℕ) (es : List Event) (h : Head) : T
   pub unerased : Avoids (first .old) es
   pub as-it-was : pageWalk g (imageAfter g es jm) (first .old) ≡ pageWalk g jm (first .old)
 
+-- a search that met nothing has left no Closed page before the current one, or that is Open
+pub record Rested (g : Geometry) (im : List ℕ) : Type 0 where
+  pub old : ℕ
+  pub runs : ℕ
+  pub inv : Inv g im old runs
+  pub roomy : Roomy g im old runs
+
 -- what a search of the list q with a buffer of n bytes comes to
 pub data Result (g : Geometry) (q : List (List ℕ)) (jm : List ℕ) (n : ℕ) (es : List Event) (out : Outcome) : Type 0 where
-  isNothing : out ≡ nothing → q ≡ [] → Result g q jm n es out
+  isNothing : out ≡ nothing → q ≡ [] → Rested g (imageAfter g es jm) → Result g q jm n es out
   isShort : (k : ℕ) → out ≡ short k → Result g q jm n es out
   isThis : (h : Head) → out ≡ this h → Found g jm es h → Result g q jm n es out
 
@@ -82,15 +89,16 @@ module _ {g : Geometry} {jm : List ℕ} {o b : ℕ} (I : Inv g jm o b) {old : �
           ∙ ap (λ (p : Plan (Try Stand Outcome)). plan (es ++ p .events) (p .answer)) f
 
       -- the next page ends the search
-      stop-here : endsAt g jm (turn g o 1) old ≡ true → run g jm o 1 b ≡ [] → Finds g q jm n (fromPage g n old (suc (suc k)) o jm)
-      unfolding run
-      stop-here s r = record {
+      stop-here : endsAt g jm (turn g o 1) old ≡ true → run g jm o 1 b ≡ [] → Roomy g jm o b → Finds g q jm n (fromPage g n old (suc (suc k)) o jm)
+      unfolding run imageAfter
+      stop-here s r t = record {
         events = es ++ [];
         out = nothing;
         is = passed-on (leave-stop I F (onward k) s);
         steady = steady-append (copies-steady K c) (rw same-image (rests K));
         result = isNothing refl (sym l ∙ listed I
-            ∙ ap₂ (λ (x y : List (List ℕ)). x ++ y) (ap (presentIn g jm) (turn-zero g o (S .old-in)) ∙ none-here) r);
+            ∙ ap₂ (λ (x y : List (List ℕ)). x ++ y) (ap (presentIn g jm) (turn-zero g o (S .old-in)) ∙ none-here) r)
+            (rw (image-append g es [] jm ∙ same-image) (record { old = o; runs = b; inv = I; roomy = t }));
       }
 
       -- page o is erased, and the search goes on
@@ -128,7 +136,7 @@ module _ {g : Geometry} {jm : List ℕ} {o b : ℕ} (I : Inv g jm o b) {old : �
               }
 
           by : Result g q km n (R .events) (R .out) → Result g q jm n (es ++ (erase o ∷ R .events)) (R .out)
-          by (isNothing a x) = isNothing a x
+          by (isNothing a x t) = isNothing a x (rw is-image t)
           by (isShort m a) = isShort m a
           by (isThis h a x) = isThis h a (found h x)
 
@@ -202,7 +210,7 @@ finds {g} n old {q} (suc (suc k)) {jm} {o} {b} I l h F = by (heads-read g n (pag
         → Finds g q jm n (fromPage g n old (suc (suc k)) o jm)
     by (tooSmall m es e c) A rec = read-short I F n q l es c (suc k) m e
     by (gotIt h₁ es e c pre post hs ip ph) A rec = found-here I F n q l es c (suc k) h₁ e pre post hs ip ph
-    by (allPassed es e c p) (stops s r) rec = stop-here I F n q l es c k e p s r
+    by (allPassed es e c p) (stops s r t) rec = stop-here I F n q l es c k e p s r t
     by (allPassed es e c p) (leads s z ne) rec = go-on I F n q l es c k e p s (rec z ne p)
 
 -- what the search of an image comes to

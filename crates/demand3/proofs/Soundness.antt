@@ -58,7 +58,7 @@ module _ {g : Geometry} {im : List ℕ} {o b : ℕ} (I : Inv g im o b) where
   -- ---- peek and pop
 
   shown-not : (n : ℕ) {q : List (List ℕ)} {es : List Event} {out : Outcome} → Result g q im n es out → shownBy out ≡ refused refusal.Corrupted → ⊥
-  shown-not n (isNothing a x) e = let f = ap shownBy a in let z : _≡_ {A = ℕ} 0 1 = cc in omega arith
+  shown-not n (isNothing a x r) e = let f = ap shownBy a in let z : _≡_ {A = ℕ} 0 1 = cc in omega arith
   shown-not n (isShort k a) e = let f = ap shownBy a in let z : _≡_ {A = ℕ} 0 1 = cc in omega arith
   shown-not n (isThis h a x) e = let f = ap shownBy a in let z : _≡_ {A = ℕ} 0 1 = cc in omega arith
 

@@ -39,7 +39,7 @@ pub data Spotted (g : Geometry) (im : List ℕ) (n : ℕ) (p : Plan (Try Unit Sp
   isAt : (es : List Event) (a : ℕ) → p ≡ plan es (gives (at a)) → SpotReady g im n es a → (Full g im n → ⊥) → Spotted g im n p
 
 -- what row 3 says, at the current page
-not-full : (g : Geometry) (im : List ℕ) (n y : ℕ) → youngest g im ≡ gives y
+pub not-full : (g : Geometry) (im : List ℕ) (n y : ℕ) → youngest g im ≡ gives y
     → (serves g (pageWalk g im y .rest) n ≡ false → (state g im (next g y) ≡ Closed) ⊎ (next g y ≡ y) → anyLive (pageWalk g im (next g y) .heads) ≡ true → ⊥)
     → Full g im n → ⊥
 not-full g im n y e f F =
@@ -53,7 +53,7 @@ serves-le : (g : Geometry) (r : List ℕ) (n : ℕ) → serves g r n ≡ true �
 unfolding serves
 serves-le g r n e = leb-true (headerSize g + n) (roundDown (g .word) (length r)) e
 
-serves-all : {g : Geometry} {m : ℕ} → Laid g m → (r : List ℕ) (n : ℕ) → length r ≡ dataSize g → headerSize g + n ≤ dataSize g → serves g r n ≡ true
+pub serves-all : {g : Geometry} {m : ℕ} → Laid g m → (r : List ℕ) (n : ℕ) → length r ≡ dataSize g → headerSize g + n ≤ dataSize g → serves g r n ≡ true
 unfolding serves
 serves-all {g} G r n l fits = rw (l, data-whole g (G .whole)) (le-leb (headerSize g + n) (dataSize g) fits)
 

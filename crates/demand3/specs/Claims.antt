@@ -3,13 +3,16 @@ use mathlib.Core.Path.{_≡_}
 use mathlib.Core.Bool.{false}
 use mathlib.Core.List.{List, []}
 use Prim.Native.Nat.{ℕ, _≤_, _<_}
+use lib.ListN.{length}
 use Rattle.paper.specs.declared.Geometry.{Geometry}
 use Rattle.paper.specs.declared.Refusal.{Refusal}
 use Rattle.paper.specs.declared.Refusal.the-variants as refusal
 use Rattle.paper.specs.declared.PageState.the-variants.{Corrupted}
-use Rattle.paper.specs.Pages.{state, repair}
-use Rattle.paper.specs.Refusals.{refused}
-use Rattle.paper.specs.Calls.{Call, pushes, fits, spaces, planOf}
+use Rattle.paper.specs.Chip.{dataSize, gives}
+use Rattle.paper.specs.Scan.{pageWalk, anyLive}
+use Rattle.paper.specs.Pages.{state, next, youngest, repair}
+use Rattle.paper.specs.Refusals.{done, empty, refused}
+use Rattle.paper.specs.Calls.{tooBig, Call, pushes, peeks, pops, fits, spaces, planOf}
 use Rattle.paper.specs.Waiting.{waiting}
 use Rattle.paper.specs.Fifo.{whole, cutAfter, Counted, imageNext, listAfter, Ghost, NoneAgain, NoFalse, Fair, Reached}
 
@@ -40,3 +43,22 @@ AlwaysOnce = (g : Geometry) (im : List ℕ) (gh : Ghost) → Reached g im gh →
 -- document 01's own premise, that no false header is accepted, gives the one that a history assumes
 abbrev pub LiteralEnough : Type 0
 LiteralEnough = (g : Geometry) (im : List ℕ) (gh : Ghost) → NoFalse g im gh → NoneAgain g im gh
+
+-- ---- room
+
+-- a push of any slip that is not too big is done
+abbrev pub TakesAny : Geometry → List ℕ → Type 0
+TakesAny g im = (slip : List ℕ) → tooBig g (length slip) ≡ false → planOf g im (pushes slip false) .answer ≡ done
+
+pub record Room (g : Geometry) (im : List ℕ) : Type 0 where
+  -- the room of popped pages is used again: where no header is live on the page after the current one, no push is refused for want of room
+  pub again : (y : ℕ) → youngest g im ≡ gives y → anyLive (pageWalk g im (next g y) .heads) ≡ false → TakesAny g im
+  -- FullStorage with an empty list ends at the next peek or pop with a buffer of a page's data: it answers empty,
+  pub peekSaysSo : waiting g im ≡ [] → (b : List ℕ) → dataSize g ≤ length b → planOf g im (peeks b) .answer ≡ empty
+  pub popSaysSo : waiting g im ≡ [] → (b : List ℕ) → dataSize g ≤ length b → planOf g im (pops b) .answer ≡ empty
+  -- and on two pages or more whatever peek or pop answers empty leaves room for any slip
+  pub peekFrees : 2 ≤ g .pages → (b : List ℕ) → planOf g im (peeks b) .answer ≡ empty → TakesAny g (imageNext g im (peeks b) whole)
+  pub popFrees : 2 ≤ g .pages → (b : List ℕ) → planOf g im (pops b) .answer ≡ empty → TakesAny g (imageNext g im (pops b) whole)
+
+abbrev pub RoomAgain : Type 0
+RoomAgain = (g : Geometry) (im : List ℕ) (gh : Ghost) → Reached g im gh → Room g im
