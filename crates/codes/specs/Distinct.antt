@@ -13,11 +13,11 @@ Small bound [] = Unit {0}
 Small bound (r ∷ []) = Unit {0}
 Small bound (r ∷ value ∷ more) = value < bound
 
--- of two cases of a call's enum
+-- two cases of a call's enum with small values and one code are the same
 abbrev pub ToldApart : {A : Type 0} → ℕ → (A → Answer) → Type 0
 ToldApart {A} bound f = (x y : A) → Small bound (numbers (f x)) → Small bound (numbers (f y)) → codeOf (f x) ≡ codeOf (f y) → x ≡ y
 
--- Every length is at most 65,535 and every size at most 64 pages of 4,096 bytes, so all that the calls answer is small.
+-- Lengths are at most 65,535 and sizes at most 64 pages of 4,096 bytes: far below these bounds.
 pub record Distinct : Type 0 where
   pub pushed : ToldApart (2 ^ 32) pushedAs
   pub shown : ToldApart (2 ^ 32) shownAs
