@@ -1,5 +1,5 @@
 -- What the contract of a public call says, in either form: the plan of its form, its image, answer and buffer. Assumes nothing.
-use mathlib.Core.Path.{_≡_, refl, sym, ap, _∙_}
+use mathlib.Core.Path.{_≡_, refl}
 use mathlib.Core.Bool.{Bool, true, false, cond}
 use mathlib.Core.List.{List}
 use Prim.Native.Nat.{ℕ}
@@ -12,7 +12,7 @@ use Rattle.paper.specs.declared.Checked.the-variants.{Accepted}
 use Rattle.paper.specs.Chip.{bufferAfter, storeCount, before, Plan, plan}
 use Rattle.paper.specs.Refusals.{geometryOf, check, Answer, refused}
 use Rattle.paper.specs.Calls.{Call, pushes, peeks, pops, fits, spaces, erasesAll, planOf, call, requested, limited}
-use Rattle.paper.specs.Fifo.{Power, whole, cutAfter, bufferOf}
+use Rattle.paper.specs.Fifo.{whole, cutAfter, bufferOf}
 use Rattle.chip.specs.Run.{Whole}
 use Rattle.demands.specs.Histories.{Lent, Form, unlimited, within, Promised, powerOf}
 

@@ -8,7 +8,7 @@ use Rattle.paper.specs.declared.Shape.{Shape}
 use Rattle.paper.specs.declared.Refusal.{Refusal}
 use Rattle.paper.specs.declared.Refusal.the-variants as refusal
 use Rattle.paper.specs.declared.Checked.the-variants.{Refused}
-use Rattle.paper.specs.Chip.{Event, imageAfter, storeCount, Plan}
+use Rattle.paper.specs.Chip.{imageAfter, storeCount, Plan}
 use Rattle.paper.specs.Refusals.{geometryOf, check, Answer, refused}
 use Rattle.paper.specs.Calls.{Call, requested, limited}
 use Rattle.paper.specs.Fifo.{bufferOf}

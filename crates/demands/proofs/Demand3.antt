@@ -1,19 +1,17 @@
 -- Demand 3 of the public calls: a history of them is one of the plans, and what is claimed of those is claimed of them. Assumes nothing.
 use mathlib.Core.Path.{_≡_, refl, sym, ap, subst, _∙_}
-use mathlib.Core.Bool.{true, false}
 use mathlib.Core.List.{List}
 use Prim.Native.Nat.{ℕ}
 use lib.ListN.{length, take}
 use Rattle.paper.specs.declared.Geometry.{Geometry}
 use Rattle.paper.specs.declared.Shape.{Shape}
 use Rattle.paper.specs.declared.Checked.the-variants.{Accepted}
-use Rattle.paper.specs.Chip.{imageAfter, bufferAfter, before, Plan}
+use Rattle.paper.specs.Chip.{bufferAfter, before, Plan}
 use Rattle.paper.specs.Refusals.{check, Answer}
-use Rattle.paper.specs.Calls.{Call, pushes, peeks, pops, fits, spaces, erasesAll, planOf, requested}
+use Rattle.paper.specs.Calls.{Call, planOf, requested}
 use Rattle.paper.specs.Waiting.{waiting}
 use Rattle.paper.specs.Fifo.{Power, whole, cutAfter, performed, eventsOf, imageNext, Ghost, ghostNext, Fair, Reached, fresh, further, bufferOf, Plain, added, big, noRoom, showsNone, showsNot, shows, takesNone, takesNot, takes, fitted, measured, cleared, Behaves}
 use Rattle.laws.proofs.Accepted.{accepted-is}
-use Rattle.demand1.proofs.Demand1.{demand1}
 use Rattle.demand3.proofs.Demand3.{demand3}
 use Rattle.demands.specs.Histories.{Lent, Form, Promised, powerOf, Played, begins, goesOn}
 use Rattle.demands.specs.Demands.{Keeps, Demand3OfCalls}
@@ -35,7 +33,7 @@ module _ (s : Shape) (g : Geometry) (im : List ℕ) (a : check (length im) s ≡
           ∙ ap (λ (p : Plan Answer). before j (p .events)) (accepted-as s im c g a)
 
   module _ (o e : List ℕ) (x : Answer) (h : Promised s f c im o e x) where
-    image-of : o ≡ imageNext g im c (powerOf s im f c)
+    pub image-of : o ≡ imageNext g im c (powerOf s im f c)
     unfolding imageNext
     image-of = whole-of s im o e x f c h .image ∙ rw (accepted-is (length im) s g a, events-of)
 
