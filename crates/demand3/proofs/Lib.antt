@@ -45,6 +45,7 @@ pub mod Demand3
 pub mod Soundness
 pub mod HeadsFit
 pub mod RoomAgain
+pub mod FirstAddress
 pub mod Once
 pub mod Premises
 pub mod PremisesMet

@@ -1,4 +1,4 @@
--- The premises of demand 3 can be met: a history with cuts in which they hold, by computation. Assumes nothing.
+-- The premises of demand 3 can be met: a history with cuts in which they hold; and one that fills a sole page. By computation. Assumes nothing.
 use mathlib.Core.Bool.{Bool, true, false, _&&_, not}
 use mathlib.Core.List.{List, [], _∷_, List·Memᴰ, List·Memᴰ·cases-cons, List·Memᴰ·not-nil}
 use mathlib.Core.Logic.{⊎-elim}
@@ -17,10 +17,10 @@ use Rattle.paper.specs.Slip.{bytesOf, numberOf, encode, blank, decode, look}
 use Rattle.paper.specs.Scan.{Head, onward, walk, pageWalk, walkOn, freeSpot, serves, live, anyLive, present, payloads}
 use Rattle.paper.specs.Pages.{zeroBits, isSet, startMark, endMark, state, setStart, next, around, from, allPages, first, youngest, oldest}
 use Rattle.paper.specs.Refusals.{allowedWord, pageCount, rules, geometryOf, judge, check}
-use Rattle.paper.specs.Calls.{retry, withRepair, tooBig, findSpot, spotOn, spotStep, spotFor, itemAt, pushAt, push, readHeads, onMet, readPage, nextItem, nextStep, startStep, searchOn, search, pop, Call, pushes, peeks, pops, fits, spaces, erasesAll, planOf}
+use Rattle.paper.specs.Calls.{retry, withRepair, tooBig, takePage, turnPage, findSpot, spotOn, spotStep, spotFor, itemAt, pushAt, push, readHeads, onMet, readPage, nextItem, nextStep, startStep, searchOn, search, pop, Call, pushes, peeks, pops, fits, spaces, erasesAll, planOf}
 use Rattle.paper.specs.Waiting.{waitingOn, waiting}
 use Rattle.paper.specs.Fifo.{Power, whole, cutAfter, Counted, slipOf, eventsOf, imageNext, headerPlan, headerAt, Ghost, kept, refusals, ghostNext, NoneAgain, NoPassing, Bytes, Fair, Erased, Reached, fresh, further}
-use Rattle.demand3.specs.Premises.{Step, imageOf, ghostOf, AllFair, listsOf, strip, blankStrip, noGhost, mishaps, PremisesMet}
+use Rattle.demand3.specs.Premises.{Step, imageOf, ghostOf, AllFair, listsOf, strip, blankStrip, noGhost, mishaps, PremisesMet, slate, blankSlate, tornPush, SoleFull}
 use Rattle.demand3.proofs.Blank.{and-true}
 
 -- ---- the premises as tests, on a range of one page
@@ -188,4 +188,26 @@ premises-met =
       lists = refl;
       ghosts = refl;
       torn = refl;
+    }
+
+-- ---- the page that a torn slip fills
+
+slate-blank : Erased slate blankSlate
+unfolding slate blankSlate pageBytes pageStart
+slate-blank p hp = let zero-page : p ≡ 0 = omega arith in rw zero-page
+
+pub sole-full : SoleFull
+unfolding slate blankSlate tornPush imageOf ghostOf headerPlan headerAt kept refusals ghostNext ones onesIn _⊕_ times modulo dataCrc lengthCrc
+    crcOf dividend message mirror dataAdjusted lengthAdjusted dataPoly lengthPoly wordsFor roundUp roundDown headerSize pageStart dataStart
+    dataSize dataEnd pageBytes pageData put ands imageBy imageAfter storeCount before words writes bind bytesOf numberOf encode blank decode
+    look onward walk pageWalk freeSpot serves live anyLive present payloads zeroBits isSet startMark endMark state setStart next around from
+    allPages first youngest oldest retry withRepair tooBig takePage turnPage findSpot spotOn spotStep spotFor itemAt pushAt push allowedWord
+    pageCount rules geometryOf judge check waitingOn waiting planOf eventsOf imageNext allFairly fairly counts small clear away stands differs
+sole-full =
+    let fair = all-fairly-holds slate blankSlate noGhost tornPush refl refl in
+    record {
+      accepted = refl;
+      reached = leads slate blankSlate noGhost tornPush (fresh (record { start = 0; end = 20; page = 20; word = 4 }) refl slate-blank) fair;
+      none = refl;
+      isRefused = refl;
     }

@@ -27,7 +27,7 @@ use Rattle.demand3.proofs.Steady.{steady-after}
 use Rattle.demand3.proofs.SpotSearch.{Spotted, isFull, isAt, spotted-for, not-full, serves-all}
 use Rattle.demand3.proofs.NextPage.{Roomy}
 use Rattle.demand3.proofs.Popping.{first-listed}
-use Rattle.demand3.proofs.Search.{Result, isNothing, isShort, isThis}
+use Rattle.demand3.proofs.Search.{Rested, Result, isNothing, isShort, isThis}
 use Rattle.demand3.proofs.Push.{small-enough, plan-at}
 use Rattle.demand3.proofs.PeekPop.{sought, peek-plan, idle-plan, pop-plan}
 use Rattle.demand3.proofs.HeadsFit.{never-too-long}
@@ -87,15 +87,16 @@ module _ {g : Geometry} {im : List ℕ} {o b : ℕ} (I : Inv g im o b) (buf : Li
             let q = sym z ∙ sym (steady-after (sought I buf .steady) .list) ∙ first-listed (X .first) in
             let w : _≡_ {A = ℕ} 0 1 = cc in absurd (omega arith)
 
-    frees : (sought I buf .out ≡ nothing → imageNext g im c whole ≡ imageAfter g (sought I buf .events) im)
-        → 2 ≤ g .pages → planOf g im c .answer ≡ empty → TakesAny g (imageNext g im c whole)
-    frees left two e = by (sought I buf .result)
+    -- what it leaves, where it answers empty
+    leaves : (sought I buf .out ≡ nothing → imageNext g im c whole ≡ imageAfter g (sought I buf .events) im)
+        → planOf g im c .answer ≡ empty → Rested g im (imageNext g im c whole)
+    leaves left e = by (sought I buf .result)
       where
         f : shownBy (sought I buf .out) ≡ empty
         f = sym says ∙ e
 
-        by : Result g (waiting g im) im (length buf) (sought I buf .events) (sought I buf .out) → TakesAny g (imageNext g im c whole)
-        by (isNothing a q R) = subst (TakesAny g) (sym (left a)) (roomy (R .inv) two (R .roomy))
+        by : Result g (waiting g im) im (length buf) (sought I buf .events) (sought I buf .out) → Rested g im (imageNext g im c whole)
+        by (isNothing a q R) = subst (Rested g im) (sym (left a)) R
         by (isShort k a) = let q = sym (ap shownBy a) ∙ f in let w : _≡_ {A = ℕ} 0 1 = cc in absurd (omega arith)
         by (isThis h a X) = let q = sym (ap shownBy a) ∙ f in let w : _≡_ {A = ℕ} 0 1 = cc in absurd (omega arith)
 
@@ -123,6 +124,12 @@ module _ {g : Geometry} {im : List ℕ} {o b : ℕ} (I : Inv g im o b) (buf : Li
   unfolding imageNext eventsOf
   pop-left a = rw (idle-plan I buf empty (ap (popped g) a) (ap shownBy a))
 
+  peek-rests : planOf g im (peeks buf) .answer ≡ empty → Rested g im (imageNext g im (peeks buf) whole)
+  peek-rests = leaves (peeks buf) peek-short peek-says (λ a. peek-left)
+
+  pop-rests : planOf g im (pops buf) .answer ≡ empty → Rested g im (imageNext g im (pops buf) whole)
+  pop-rests = leaves (pops buf) pop-short pop-says pop-left
+
 pub room-again : RoomAgain
 room-again g im gh r =
     let I = held r .inv in
@@ -130,6 +137,8 @@ room-again g im gh r =
       again = again I;
       peekSaysSo = λ z b l. says-so I b (peeks b) (peek-short I b) (peek-says I b) z l;
       popSaysSo = λ z b l. says-so I b (pops b) (pop-short I b) (pop-says I b) z l;
-      peekFrees = λ two b e. frees I b (peeks b) (peek-short I b) (peek-says I b) (λ a. peek-left I b) two e;
-      popFrees = λ two b e. frees I b (pops b) (pop-short I b) (pop-says I b) (pop-left I b) two e;
+      peekFrees = λ two b e. let R = peek-rests I b e in roomy (R .inv) two (R .roomy);
+      popFrees = λ two b e. let R = pop-rests I b e in roomy (R .inv) two (R .roomy);
+      peekKeeps = λ one b e. peek-rests I b e .sole one;
+      popKeeps = λ one b e. pop-rests I b e .sole one;
     }

@@ -35,16 +35,17 @@ pub record Found (g : Geometry) (jm : List ℕ) (es : List Event) (h : Head) : T
   pub unerased : Avoids (first .old) es
   pub as-it-was : pageWalk g (imageAfter g es jm) (first .old) ≡ pageWalk g jm (first .old)
 
--- a search that met nothing has left no Closed page before the current one, or that is Open
-pub record Rested (g : Geometry) (im : List ℕ) : Type 0 where
+-- a search of the image jm that met nothing has left no Closed page before the current one, or that is Open; a sole page is as it was
+pub record Rested (g : Geometry) (jm im : List ℕ) : Type 0 where
   pub old : ℕ
   pub runs : ℕ
   pub inv : Inv g im old runs
   pub roomy : Roomy g im old runs
+  pub sole : g .pages ≡ 1 → im ≡ jm
 
 -- what a search of the list q with a buffer of n bytes comes to
 pub data Result (g : Geometry) (q : List (List ℕ)) (jm : List ℕ) (n : ℕ) (es : List Event) (out : Outcome) : Type 0 where
-  isNothing : out ≡ nothing → q ≡ [] → Rested g (imageAfter g es jm) → Result g q jm n es out
+  isNothing : out ≡ nothing → q ≡ [] → Rested g jm (imageAfter g es jm) → Result g q jm n es out
   isShort : (k : ℕ) → out ≡ short k → Result g q jm n es out
   isThis : (h : Head) → out ≡ this h → Found g jm es h → Result g q jm n es out
 
@@ -98,14 +99,14 @@ module _ {g : Geometry} {jm : List ℕ} {o b : ℕ} (I : Inv g jm o b) {old : �
         steady = steady-append (copies-steady K c) (rw same-image (rests K));
         result = isNothing refl (sym l ∙ listed I
             ∙ ap₂ (λ (x y : List (List ℕ)). x ++ y) (ap (presentIn g jm) (turn-zero g o (S .old-in)) ∙ none-here) r)
-            (rw (image-append g es [] jm ∙ same-image) (record { old = o; runs = b; inv = I; roomy = t }));
+            (rw (image-append g es [] jm ∙ same-image) (record { old = o; runs = b; inv = I; roomy = t; sole = λ one. refl }));
       }
 
       -- page o is erased, and the search goes on
-      go-on : endsAt g jm (turn g o 1) old ≡ false
+      go-on : endsAt g jm (turn g o 1) old ≡ false → 0 < b
           → Finds g q (imageBy g (erase o) jm) n (fromPage g n old k (turn g o 1) (imageBy g (erase o) jm))
           → Finds g q jm n (fromPage g n old (suc (suc k)) o jm)
-      go-on s R = record {
+      go-on s z R = record {
         events = es ++ (erase o ∷ R .events);
         out = R .out;
         is = passed-on (leave-on I F (onward k) s ∙ ap (λ (x : ℕ). then (fromPage g n old k x km)) (next-is g o (S .old-in)) ∙ ap then (R .is));
@@ -136,7 +137,13 @@ module _ {g : Geometry} {jm : List ℕ} {o b : ℕ} (I : Inv g jm o b) {old : �
               }
 
           by : Result g q km n (R .events) (R .out) → Result g q jm n (es ++ (erase o ∷ R .events)) (R .out)
-          by (isNothing a x t) = isNothing a x (rw is-image t)
+          by (isNothing a x t) = isNothing a x (record {
+            old = t .old;
+            runs = t .runs;
+            inv = rw is-image (t .inv);
+            roomy = rw is-image (t .roomy);
+            sole = λ one. let w : ⊥ = omega (arith, S .run-in) in absurd w;
+          })
           by (isShort m a) = isShort m a
           by (isThis h a x) = isThis h a (found h x)
 
@@ -211,7 +218,7 @@ finds {g} n old {q} (suc (suc k)) {jm} {o} {b} I l h F = by (heads-read g n (pag
     by (tooSmall m es e c) A rec = read-short I F n q l es c (suc k) m e
     by (gotIt h₁ es e c pre post hs ip ph) A rec = found-here I F n q l es c (suc k) h₁ e pre post hs ip ph
     by (allPassed es e c p) (stops s r t) rec = stop-here I F n q l es c k e p s r t
-    by (allPassed es e c p) (leads s z ne) rec = go-on I F n q l es c k e p s (rec z ne p)
+    by (allPassed es e c p) (leads s z ne) rec = go-on I F n q l es c k e p s z (rec z ne p)
 
 -- what the search of an image comes to
 pub record Searched (g : Geometry) (im : List ℕ) (n : ℕ) : Type 0 where

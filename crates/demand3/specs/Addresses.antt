@@ -10,7 +10,8 @@ use Rattle.paper.specs.Chip.{Try, fails, gives}
 use Rattle.paper.specs.Scan.{Head, pageWalk, present, payloads}
 use Rattle.paper.specs.Pages.{state, same, next, from, youngest, oldest}
 use Rattle.paper.specs.Waiting.{waiting}
-use Rattle.paper.specs.Ways.{Each}
+use Rattle.paper.specs.Ways.{Each, Seen, Way}
+use Rattle.paper.specs.Fifo.{Ghost, Reached}
 
 -- the headers of a list whose items are present
 unfoldable pub presents : List Head → List Head
@@ -40,3 +41,11 @@ pub record Addressed (g : Geometry) (im : List ℕ) : Type 0 where
 
 abbrev pub AlwaysAddressed : Type 0
 AlwaysAddressed = (g : Geometry) (im : List ℕ) → 0 < g .pages → Addressed g im
+
+-- on an image of a history they are the present ones on the way of a search, and what a peek or pop shows is the first of them
+pub record FirstOfThem (g : Geometry) (im : List ℕ) : Type 0 where
+  pub on-way : {hs : List Head} → Way g im hs → waitingHeads g im ≡ presents hs
+  pub first : {hs : List Head} → Way g im hs → (n k : ℕ) (seen : Seen g n hs k) → waitingHeads g im ≡ seen .head ∷ presents (seen .stops .rest)
+
+abbrev pub AlwaysFirst : Type 0
+AlwaysFirst = (g : Geometry) (im : List ℕ) (gh : Ghost) → Reached g im gh → FirstOfThem g im

@@ -59,6 +59,9 @@ pub record Room (g : Geometry) (im : List ℕ) : Type 0 where
   -- and on two pages or more whatever peek or pop answers empty leaves room for any slip
   pub peekFrees : 2 ≤ g .pages → (b : List ℕ) → planOf g im (peeks b) .answer ≡ empty → TakesAny g (imageNext g im (peeks b) whole)
   pub popFrees : 2 ≤ g .pages → (b : List ℕ) → planOf g im (pops b) .answer ≡ empty → TakesAny g (imageNext g im (pops b) whole)
+  -- while on one page it leaves the image as it is: a torn slip that fills the page stays, and FullStorage with it
+  pub peekKeeps : g .pages ≡ 1 → (b : List ℕ) → planOf g im (peeks b) .answer ≡ empty → imageNext g im (peeks b) whole ≡ im
+  pub popKeeps : g .pages ≡ 1 → (b : List ℕ) → planOf g im (pops b) .answer ≡ empty → imageNext g im (pops b) whole ≡ im
 
 abbrev pub RoomAgain : Type 0
 RoomAgain = (g : Geometry) (im : List ℕ) (gh : Ghost) → Reached g im gh → Room g im

@@ -1,5 +1,5 @@
 -- Both premises of demand 3 are needed: a history without each of them, in which the list is not what the calls say. And they can be met:
--- a history with cuts in which all that is assumed holds. Assumes nothing.
+-- a history with cuts in which all that is assumed holds. And on one page a torn slip can fill the page. Assumes nothing.
 use mathlib.Core.Path.{_≡_}
 use mathlib.Core.Bool.{false}
 use mathlib.Core.List.{List, [], _∷_}
@@ -7,7 +7,8 @@ use Prim.Native.Nat.{ℕ}
 use lib.ListN.{take, replicate}
 use Rattle.paper.specs.declared.Geometry.{Geometry}
 use Rattle.paper.specs.declared.Checked.the-variants.{Accepted}
-use Rattle.paper.specs.Refusals.{check, done}
+use Rattle.paper.specs.declared.Refusal.the-variants as refusal
+use Rattle.paper.specs.Refusals.{check, done, refused}
 use Rattle.paper.specs.Calls.{Call, pushes, pops, planOf}
 use Rattle.paper.specs.Waiting.{waiting}
 use Rattle.paper.specs.Fifo.{Power, whole, cutAfter, imageNext, headerAt, Ghost, ghostNext, Fair, Erased, Reached}
@@ -101,3 +102,26 @@ pub record PremisesMet : Type 0 where
   -- neither premise is idle: the scan refused address 16 in three images, and a push was cut with its header whole, at address 20
   pub ghosts : ghostOf strip blankStrip noGhost mishaps ≡ record { begun = 32 ∷ 20 ∷ 16 ∷ 4 ∷ []; refusedBefore = 16 ∷ 16 ∷ 16 ∷ [] }
   pub torn : headerAt strip (imageOf strip blankStrip (take 2 mishaps)) (pushes (2 ∷ []) false) (cutAfter 2) 1 ≡ 20 ∷ []
+
+-- ---- a page that a torn slip fills
+
+-- one erased page of 20 bytes, with words of 4: a mark, a header, a slip of 4 bytes, a mark
+unfoldable pub slate : Geometry
+slate = record { start = 0; page = 20; word = 4; pages = 1 }
+
+unfoldable pub blankSlate : List ℕ
+blankSlate = replicate 20 0xff
+
+-- a push cut when its header is whole and nothing of its payload is stored
+unfoldable pub tornPush : List Step
+tornPush = record { call = pushes (1 ∷ 2 ∷ 3 ∷ 4 ∷ []) false; power = cutAfter 3 } ∷ []
+
+abbrev pub filledSlate : List ℕ
+filledSlate = imageOf slate blankSlate tornPush
+
+-- on one page `Room.peekFrees` and `popFrees` do not hold: nothing waits, and a push of nothing is refused
+pub record SoleFull : Type 0 where
+  pub accepted : check 20 (record { start = 0; end = 20; page = 20; word = 4 }) ≡ Accepted slate
+  pub reached : Reached slate filledSlate (ghostOf slate blankSlate noGhost tornPush)
+  pub none : waiting slate filledSlate ≡ []
+  pub isRefused : planOf slate filledSlate (pushes [] false) .answer ≡ refused refusal.FullStorage

@@ -33,7 +33,7 @@ module _ (s : Shape) (g : Geometry) (im : List ℕ) (a : check (length im) s ≡
           ∙ ap (λ (p : Plan Answer). before j (p .events)) (accepted-as s im c g a)
 
   module _ (o e : List ℕ) (x : Answer) (h : Promised s f c im o e x) where
-    image-of : o ≡ imageNext g im c (powerOf s im f c)
+    pub image-of : o ≡ imageNext g im c (powerOf s im f c)
     unfolding imageNext
     image-of = whole-of s im o e x f c h .image ∙ rw (accepted-is (length im) s g a, events-of)
 

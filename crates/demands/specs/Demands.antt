@@ -1,22 +1,25 @@
 -- Demands 1 and 3, of the public calls. Assumes nothing.
 use mathlib.Core.Path.{_≡_}
+use mathlib.Core.Bool.{false}
 use mathlib.Core.List.{List, []}
 use mathlib.Core.Logic.{_⊎_}
-use Prim.Native.Nat.{ℕ, _<_}
+use Prim.Native.Nat.{ℕ, _≤_, _<_}
 use lib.ListN.{length}
 use Rattle.paper.specs.declared.Geometry.{Geometry}
 use Rattle.paper.specs.declared.Shape.{Shape}
 use Rattle.paper.specs.declared.Refusal.{Refusal}
 use Rattle.paper.specs.declared.Refusal.the-variants as refusal
 use Rattle.paper.specs.declared.Checked.the-variants.{Accepted, Refused}
-use Rattle.paper.specs.Chip.{storeCount}
-use Rattle.paper.specs.Refusals.{check, Answer, refused}
-use Rattle.paper.specs.Calls.{Call, planOf, requested}
+use Rattle.paper.specs.Chip.{dataSize, storeCount, gives}
+use Rattle.paper.specs.Scan.{pageWalk, anyLive}
+use Rattle.paper.specs.Pages.{next, youngest}
+use Rattle.paper.specs.Refusals.{check, Answer, done, empty, refused}
+use Rattle.paper.specs.Calls.{tooBig, Call, pushes, planOf, requested}
 use Rattle.paper.specs.Waiting.{waiting}
-use Rattle.paper.specs.Fifo.{Power, whole, cutAfter, Ghost, Fair, Erased, Plain, listAfter}
+use Rattle.paper.specs.Fifo.{Power, whole, cutAfter, bufferOf, Ghost, Fair, Erased, Plain, listAfter}
 use Rattle.demand1.specs.Range.{Outside, Agree}
 use Rattle.demand1.specs.Shapes.{Iff}
-use Rattle.demands.specs.Histories.{Lent, Form, within, Promised, powerOf, Played}
+use Rattle.demands.specs.Histories.{Lent, Form, unlimited, within, Promised, powerOf, Played}
 
 -- ---- demand 1
 
@@ -48,3 +51,22 @@ pub record Demand3OfCalls : Type 0 where
   pub starts : (s : Shape) (g : Geometry) (im : List ℕ) → check (length im) s ≡ Accepted g → Erased g im → waiting g im ≡ []
   pub keeps : (s : Shape) (g : Geometry) (im : List ℕ) (gh : Ghost) → Played s g im gh → (f : Form) (c : Call) → Fair g im gh c (powerOf s im f c)
       → (o e : List ℕ) (x : Answer) → Promised s f c im o e x → Keeps g c (powerOf s im f c) im o e x
+
+-- ---- room
+
+-- a push of any slip that is not too big is done
+abbrev pub TakesAny : Shape → Geometry → List ℕ → Type 0
+TakesAny s g im =
+    (slip : List ℕ) → tooBig g (length slip) ≡ false → (o e : List ℕ) (x : Answer) → Promised s unlimited (pushes slip false) im o e x → x ≡ done
+
+-- of an image of a history of public calls
+pub record RoomOfCalls (s : Shape) (g : Geometry) (im : List ℕ) : Type 0 where
+  -- the room of popped pages is used again
+  pub again : (y : ℕ) → youngest g im ≡ gives y → anyLive (pageWalk g im (next g y) .heads) ≡ false → TakesAny s g im
+  -- FullStorage with an empty list ends, on two pages or more, at the next peek or pop with a buffer of a page's data
+  pub says-so : (c : Call) → Lent c → waiting g im ≡ [] → dataSize g ≤ length (bufferOf c) → (o e : List ℕ) (x : Answer)
+      → Promised s unlimited c im o e x → x ≡ empty
+  pub frees : (c : Call) → Lent c → 2 ≤ g .pages → (o e : List ℕ) (x : Answer) → Promised s unlimited c im o e x → x ≡ empty → TakesAny s g o
+
+abbrev pub RoomAgainOfCalls : Type 0
+RoomAgainOfCalls = (s : Shape) (g : Geometry) (im : List ℕ) (gh : Ghost) → Played s g im gh → RoomOfCalls s g im
