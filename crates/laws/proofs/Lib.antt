@@ -8,6 +8,7 @@ pub mod Rounding
 pub mod Headers
 pub mod Places
 pub mod PageBytes
+pub mod ErasePage
 pub mod Ring
 pub mod Standing
 pub mod Accepted
