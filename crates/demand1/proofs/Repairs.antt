@@ -4,8 +4,8 @@ use mathlib.Core.Bool.{Bool, true, false, cond}
 use mathlib.Core.List.{List, [], _∷_, _++_}
 use Prim.Native.Nat.{ℕ, zero, suc, _+_, _<_}
 use native.Mathlib.Nat.{add-zero}
+use native.Mathlib.Numerals.{add-one}
 use native.Mathlib.Omega.{arith}
-use borrow.Author.Tests.{ne-eqb}
 use lib.ListN.{length}
 use Rattle.paper.specs.declared.Geometry.{Geometry}
 use Rattle.paper.specs.declared.PageState.the-variants.{Open, Corrupted}
@@ -13,6 +13,7 @@ use Rattle.paper.specs.Chip.{pageBytes, erasePage, imageAfter}
 use Rattle.paper.specs.Pages.{state, same, next, around, from, allPages, repairs, repair}
 use Rattle.laws.proofs.Accepted.{Laid}
 use Rattle.laws.proofs.ErasePage.{erase-then}
+use Rattle.laws.proofs.Ring.{next-on}
 use Rattle.laws.proofs.Sides.{Apart, is, differs, apart}
 use Rattle.demand1.specs.Range.{Each}
 use Rattle.demand1.specs.Rows.{repaired}
@@ -24,12 +25,12 @@ use Rattle.demand1.proofs.Frames.{erase-long, erase-other, erase-open}
 
 -- what holds of all pages, in page order, holds of each
 around-of : (g : Geometry) (P : ℕ → Type 0) (k i p : ℕ) → i < k → p + i < g .pages → Each P (around g k p) → P (p + i)
-unfolding around next
+unfolding around
 around-of g P zero i p h l e = absurd (omega arith)
 around-of g P (suc k) zero p h l e = subst P (sym (add-zero p)) (e .0)
 around-of g P (suc k) (suc i) p h l e =
     let z : suc p + i ≡ p + suc i = omega arith in
-    let n : next g p ≡ suc p = rw (ne-eqb (suc p) (g .pages) (λ q. let f : ⊥ = omega arith in f)) in
+    let n : next g p ≡ suc p = next-on g p (omega arith) ∙ add-one p in
     subst P z (around-of g P k i (suc p) (omega arith) (omega arith) (subst (λ (x : ℕ). Each P (around g k x)) n (e .1)))
 
 pub all-of : (g : Geometry) (P : ℕ → Type 0) → Each P (allPages g) → (p : ℕ) → p < g .pages → P p
