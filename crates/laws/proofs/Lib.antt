@@ -6,6 +6,7 @@ pub mod Marks
 pub mod Events
 pub mod Rounding
 pub mod Headers
+pub mod Looking
 pub mod Places
 pub mod PageBytes
 pub mod ErasePage
