@@ -13,7 +13,7 @@ use Rattle.paper.specs.Chip.{headerSize, pageStart}
 use Rattle.paper.specs.Refusals.{Rule, judge, check, geometryOf}
 use Rattle.laws.proofs.Accepted.{Laid, accepted-from}
 use Rattle.laws.proofs.Rounding.{header-in}
-use Rattle.chip.specs.Within.{Within, Checks}
+use Rattle.chip.specs.Within.{addressLimit, Within, Checks}
 
 -- ---- one rule after another
 
@@ -32,7 +32,7 @@ accepts s = refl
 
 -- ---- a geometry that was accepted
 
-laid-within : {g : Geometry} {n : ℕ} → Laid g n → pageStart g (g .pages) < 4294967296 → Within g n
+laid-within : {g : Geometry} {n : ℕ} → Laid g n → pageStart g (g .pages) < addressLimit → Within g n
 unfolding headerSize
 laid-within {g} L top =
     let h = header-in (g .word) (L .low) (L .high) in
@@ -53,9 +53,9 @@ laid-within {g} L top =
       ends = L .ends;
     }
 
-pub accepted-within : (n : ℕ) (s : Shape) (g : Geometry) → check n s ≡ Accepted g → s .end < 4294967296 → Within g n
+pub accepted-within : (n : ℕ) (s : Shape) (g : Geometry) → check n s ≡ Accepted g → s .end < addressLimit → Within g n
 accepted-within n s g e top = let F = accepted-from n s g e in laid-within (F .laid) (omega (arith, F .ends-at))
 
 -- what the check's contract asks of an answer
-pub checks : (n : ℕ) (s : Shape) (r : Checked) → s .end < 4294967296 → r ≡ check n s → Checks n s r
+pub checks : (n : ℕ) (s : Shape) (r : Checked) → s .end < addressLimit → r ≡ check n s → Checks n s r
 checks n s r top e = record { answer = e; within = λ g f. accepted-within n s g (sym e ∙ f) top }

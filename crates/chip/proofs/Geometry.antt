@@ -6,7 +6,7 @@ use Rattle.paper.specs.declared.Geometry.{Geometry}
 use Rattle.paper.specs.Chip.{roundUp, roundDown, headerSize, pageStart, dataStart, dataSize, dataEnd}
 use Rattle.laws.proofs.Places.{page-in}
 use Rattle.laws.proofs.Rounding.{round-up-behind}
-use Rattle.chip.specs.Within.{Good, Within}
+use Rattle.chip.specs.Within.{addressLimit, Good, Within}
 
 -- where a page and its data begin and end, in an image of n bytes
 pub record DataIn (g : Geometry) (p n : ℕ) : Type 0 where
@@ -15,7 +15,7 @@ pub record DataIn (g : Geometry) (p n : ℕ) : Type 0 where
   pub sizes : dataEnd g p ≡ dataStart g p + dataSize g
   pub size : dataSize g + 2 * g .word ≡ g .page
   pub within : pageStart g p + g .page ≤ n
-  pub top : pageStart g p + g .page < 4294967296
+  pub top : pageStart g p + g .page < addressLimit
 
 pub data-in : (g : Geometry) (p n : ℕ) → Within g n → p < g .pages → DataIn g p n
 unfolding dataStart dataEnd dataSize

@@ -1,5 +1,5 @@
 -- Events that copy nothing leave the buffer: those of a write, of an erase and of a repair. Assumes nothing.
-use mathlib.Core.Path.{_≡_, refl, sym}
+use mathlib.Core.Path.{_≡_, refl, sym, ap}
 use mathlib.Core.Bool.{Bool, true, false, cond}
 use mathlib.Core.List.{List, [], _∷_, _++_}
 use Prim.Native.Nat.{ℕ, zero, suc, _+_}
@@ -9,6 +9,7 @@ use Rattle.paper.specs.declared.Geometry.{Geometry}
 use Rattle.paper.specs.declared.PageState.the-variants.{Corrupted}
 use Rattle.paper.specs.Chip.{Event, store, erase, copy, wordsFor, words, writes, erasePage, imageBy, bufferBy, bufferAfter, before}
 use Rattle.paper.specs.Pages.{state, same, repairs, repair, allPages}
+use Rattle.laws.proofs.ErasePage.{erase-page-is}
 use Rattle.chip.specs.declared.Budget.{Budget}
 use Rattle.chip.specs.declared.Spent.{Spent}
 use Rattle.chip.specs.Run.{allowed, made, Did, Acted}
@@ -68,8 +69,8 @@ writes-quiet g a bytes = go (wordsFor (g .word) _) a bytes
     go (suc k) a bytes = go k (a + g .word) (drop (g .word) bytes)
 
 pub erase-quiet : (g : Geometry) (p : ℕ) → copyCount (erasePage g p) ≡ 0
-unfolding copyCount erasePage
-erase-quiet g p = refl
+unfolding copyCount
+erase-quiet g p = ap copyCount (erase-page-is g p)
 
 pub repair-quiet : (g : Geometry) (im : List ℕ) → copyCount (repair g im) ≡ 0
 unfolding copyCount repair repairs

@@ -8,6 +8,10 @@ use Rattle.paper.specs.declared.Checked.the-variants.{Accepted}
 use Rattle.paper.specs.Chip.{roundUp, headerSize, pageStart}
 use Rattle.paper.specs.Refusals.{check, wordLimit, pageLimit, pageCountLimit}
 
+-- addresses and counts fit a u32: the code writes this number out
+abbrev pub addressLimit : ℕ
+addressLimit = 4294967296
+
 -- a word of any size from 1 to 32, whole words in a page, room for marks, a header and a word of data, and addresses that fit a u32
 pub record Good (g : Geometry) : Type 0 where
   pub low : 0 < g .word
@@ -17,7 +21,7 @@ pub record Good (g : Geometry) : Type 0 where
   pub small : g .page ≤ pageLimit
   pub some : 0 < g .pages
   pub few : g .pages ≤ pageCountLimit
-  pub top : pageStart g (g .pages) < 4294967296
+  pub top : pageStart g (g .pages) < addressLimit
   -- these three follow from the first two; they stand here as bounds of a definition that stays shut
   pub header-low : 8 ≤ headerSize g
   pub header-high : headerSize g ≤ wordLimit

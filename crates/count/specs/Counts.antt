@@ -12,6 +12,7 @@ use Rattle.paper.specs.Scan.{pageWalk, anyLive}
 use Rattle.paper.specs.Pages.{same}
 use Rattle.paper.specs.Refusals.{Answer, refused}
 use Rattle.paper.specs.Calls.{fit, space, spaceBy}
+use Rattle.chip.specs.Within.{addressLimit}
 use Rattle.item.specs.Headers.{availableAs}
 use Rattle.count.specs.declared.Count.{Count}
 use Rattle.count.specs.declared.Count.the-variants as count
@@ -42,4 +43,4 @@ emptyBy g im p Corrupted = false
 -- page p in state s, which is not Corrupted, adds n
 pub record SpaceIs (g : Geometry) (im : List ℕ) (p : ℕ) (s : PageState) (n : ℕ) : Type 0 where
   pub is : same s Corrupted ≡ false → spaceBy g im p s ≡ gives n
-  pub small : n < 4294967296
+  pub small : n < addressLimit

@@ -11,8 +11,10 @@ use Rattle.paper.specs.Pages.{state, next, allPages, youngest}
 use Rattle.paper.specs.Refusals.{Answer, refused}
 use Rattle.paper.specs.Calls.{counted, fitBy, fit, findMaxFit, spaceBy, spaceOf, space, spaceLeft, erases, eraseAll}
 use Rattle.laws.proofs.Accepted.{Laid}
+use Rattle.laws.proofs.ErasePage.{erase-each}
 use Rattle.laws.proofs.Ring.{next-in}
 use Rattle.demand1.specs.Range.{Lies, Each}
+use Rattle.demand1.proofs.Lists.{each-append}
 use Rattle.demand1.proofs.Pages.{all-in}
 use Rattle.demand1.proofs.Lying.{Alike}
 use Rattle.demand1.proofs.Does.{Tried, Any}
@@ -79,9 +81,9 @@ module _ {g : Geometry} {n : ℕ} (S : Laid g n) where
   both-space = both-counted (space g) space-same
 
   erases-lie : (ps : List ℕ) → Each (λ p. p < g .pages) ps → Each (Lies g) (erases g ps)
-  unfolding erases erasePage
+  unfolding erases
   erases-lie [] h = tt
-  erases-lie (p ∷ ps) h = (h .0, erases-lie ps (h .1))
+  erases-lie (p ∷ ps) h = each-append (Lies g) (erasePage g p) (erases g ps) (erase-each g p (Lies g) (h .0)) (erases-lie ps (h .1))
 
   pub both-erase : Both g Any (eraseAll g) (eraseAll g)
   unfolding eraseAll

@@ -1,7 +1,7 @@
 -- What a plan does on any image: what holds of each of its events, and of its answer. Assumes nothing.
 use mathlib.Core.Path.{_≡_, refl}
 use mathlib.Core.Bool.{Bool, true, false, cond}
-use mathlib.Core.List.{List, [], _∷_}
+use mathlib.Core.List.{List, [], _∷_, _++_}
 use Prim.Native.Nat.{ℕ, zero, suc, _+_, _<_}
 use lib.ListN.{length, drop}
 use Rattle.paper.specs.declared.Geometry.{Geometry}
@@ -9,6 +9,7 @@ use Rattle.paper.specs.declared.PageState.the-variants.{Corrupted}
 use Rattle.paper.specs.Chip.{wordsFor, Event, store, erase, erasePage, words, writes, imageAfter, Plan, bind, Try, fails, gives}
 use Rattle.paper.specs.Pages.{same, state, allPages, repairs, repair}
 use Rattle.paper.specs.Calls.{retry, withRepair}
+use Rattle.laws.proofs.ErasePage.{erase-each}
 use Rattle.demand1.specs.Range.{Each}
 use Rattle.demand1.proofs.Lists.{each-append, each-any}
 use Rattle.demand1.proofs.Pages.{all-in}
@@ -26,12 +27,12 @@ Any a = Unit {0}
 
 module _ (g : Geometry) (im : List ℕ) (P : Event → Type 0) where
   repairs-do : (Q : ℕ → Type 0) → ((p : ℕ) → Q p → same (state g im p) Corrupted ≡ true → P (erase p)) → (ps : List ℕ) → Each Q ps → Each P (repairs g im ps)
-  unfolding repairs erasePage
+  unfolding repairs
   repairs-do Q f [] h = tt
   repairs-do Q f (p ∷ ps) h = by (same (state g im p) Corrupted) refl (repairs-do Q f ps (h .1))
     where
-      by : (t : Bool) → same (state g im p) Corrupted ≡ t → Each P (repairs g im ps) → Each P (cond t (erase p ∷ repairs g im ps) (repairs g im ps))
-      by true e r = (f p (h .0) e, r)
+      by : (t : Bool) → same (state g im p) Corrupted ≡ t → Each P (repairs g im ps) → Each P (cond t (erasePage g p ++ repairs g im ps) (repairs g im ps))
+      by true e r = each-append P (erasePage g p) (repairs g im ps) (erase-each g p P (f p (h .0) e)) r
       by false e r = r
 
   -- a repair erases pages that are Corrupted
@@ -45,8 +46,7 @@ module _ (g : Geometry) (im : List ℕ) (P : Event → Type 0) where
 
 -- leaving a page erases it, or does nothing
 pub left-does : (g : Geometry) (P : Event → Type 0) (clears : Bool) (p : ℕ) → (clears ≡ true → P (erase p)) → Each P (cond clears (erasePage g p) [])
-unfolding erasePage
-left-does g P true p f = (f refl, tt)
+left-does g P true p f = erase-each g p P (f refl)
 left-does g P false p f = tt
 
 pub writes-store : (g : Geometry) (P : Event → Type 0) → ((a : ℕ) (word : List ℕ) → P (store a word)) → (a : ℕ) (bytes : List ℕ) → Each P (writes g a bytes)

@@ -1,46 +1,47 @@
 -- What an erase and a start mark leave of each page, and what they make of their own. Assumes nothing.
 use mathlib.Core.Path.{_≡_, ap, _∙_}
-use mathlib.Core.List.{List, [], _∷_}
+use mathlib.Core.List.{List}
 use Prim.Native.Nat.{ℕ, _+_, _≤_, _<_}
 use native.Mathlib.Omega.{arith}
 use lib.ListN.{length, drop, replicate, length-replicate, length-drop}
 use Rattle.paper.specs.declared.Geometry.{Geometry}
 use Rattle.paper.specs.declared.PageState.the-variants.{Open, PartialOpen}
-use Rattle.paper.specs.Chip.{pageStart, dataStart, dataSize, dataEnd, pageBytes, pageData, part, erase, put, imageBy, imageAfter}
+use Rattle.paper.specs.Chip.{pageStart, dataStart, dataSize, dataEnd, pageBytes, pageData, part, put, erasePage, imageBy, imageAfter}
 use Rattle.paper.specs.Scan.{walk, pageWalk}
 use Rattle.paper.specs.Pages.{isSet, startMark, endMark, state, setStart}
 use Rattle.laws.proofs.Accepted.{Laid}
 use Rattle.laws.proofs.Ands.{ands-zeros}
+use Rattle.laws.proofs.ErasePage.{erase-length, erase-filled, erase-others}
 use Rattle.laws.proofs.Marks.{zeros-set, ones-unset, open-end}
 use Rattle.laws.proofs.PageBytes.{put-elsewhere}
 use Rattle.laws.proofs.Places.{page-in}
 use Rattle.laws.proofs.Puts.{part-after, part-filled}
 use Rattle.demand1.proofs.Pages.{layout}
-use Rattle.demand1.proofs.Lying.{frame-after}
 
 -- ---- one event
 
 module _ {g : Geometry} {n : ℕ} (S : Laid g n) (im : List ℕ) (long : length im ≡ n) where
+  inside : pageStart g (g .pages) ≤ length im
+  inside = omega (arith, S .ends)
+
   -- bytes put into page q leave every other page
   put-other : (q a : ℕ) (x : List ℕ) → q < g .pages → pageStart g q ≤ a → a + length x ≤ pageStart g q + g .page
       → (p : ℕ) → p < g .pages → (p ≡ q → ⊥) → pageBytes g (put a x im) p ≡ pageBytes g im p
-  put-other = put-elsewhere g im (omega (arith, S .ends))
+  put-other = put-elsewhere g im inside
 
   module _ (q : ℕ) (hq : q < g .pages) where
-    pub erase-long : length (imageBy g (erase q) im) ≡ n
-    unfolding imageAfter
-    erase-long = frame-after S (erase q ∷ []) im long (hq, tt) .size ∙ long
+    pub erase-long : length (imageAfter g (erasePage g q) im) ≡ n
+    erase-long = erase-length g q im inside hq ∙ long
 
-    pub erase-other : (p : ℕ) → p < g .pages → (p ≡ q → ⊥) → pageBytes g (imageBy g (erase q) im) p ≡ pageBytes g im p
-    unfolding imageBy
-    erase-other = put-other q (pageStart g q) (replicate (g .page) 0xff) hq (omega arith) (omega (arith, length-replicate {A = ℕ} (g .page) 0xff))
+    pub erase-other : (p : ℕ) → p < g .pages → (p ≡ q → ⊥) → pageBytes g (imageAfter g (erasePage g q) im) p ≡ pageBytes g im p
+    erase-other = erase-others g q im inside hq
 
     -- the erased page is Open
-    pub erase-open : state g (imageBy g (erase q) im) q ≡ Open
-    unfolding state startMark endMark imageBy
+    pub erase-open : state g (imageAfter g (erasePage g q) im) q ≡ Open
+    unfolding state startMark endMark
     erase-open =
         let L = layout S q in
-        let filled = part-filled (pageStart g q) (g .page) 0xff im (omega (arith, page-in g q hq, S .ends)) in
+        let filled = erase-filled g q im inside hq in
         rw (filled (pageStart g q) (g .word) (omega arith) (omega arith), filled (dataEnd g q) (g .word) (omega arith) (omega arith), ones-unset (g .word))
 
     -- ---- a start mark

@@ -14,6 +14,7 @@ use Rattle.paper.specs.Scan.{pageWalk, serves, anyLive}
 use Rattle.paper.specs.Pages.{state, same, setStart, setEnd, next, youngest}
 use Rattle.paper.specs.Refusals.{Answer}
 use Rattle.paper.specs.Calls.{Spot, full, at, tooBig, takePage, turnPage, findSpot, spotOn, spotStep, spotFor, itemAt, pushAt, push}
+use Rattle.laws.proofs.ErasePage.{erase-each}
 use Rattle.demand1.specs.Range.{Each}
 use Rattle.demand1.proofs.Lists.{each-append}
 use Rattle.demand1.proofs.Does.{Tried, Any, writes-store, Does, does-cond, does-bind, does-steps}
@@ -24,9 +25,9 @@ module _ {P : Event → Type 0} (stores : (a : ℕ) (word : List ℕ) → P (sto
   nothing-done = record { each = tt; answers = tt }
 
   take-does : (y x : ℕ) (im : List ℕ) → Does {A = Try Unit Spot} P Any (takePage g over y x im)
-  unfolding takePage erasePage setStart setEnd
+  unfolding takePage setStart setEnd
   take-does y x im = does-cond (not over && anyLive (pageWalk g im x .heads)) (λ e. nothing-done) (λ e. record {
-    each = (erases x, by (eqb x y));
+    each = each-append P (erasePage g x) (cond (eqb x y) [] (setEnd g y ∷ []) ++ (setStart g x ∷ [])) (erase-each g x P (erases x)) (by (eqb x y));
     answers = tt;
   })
     where

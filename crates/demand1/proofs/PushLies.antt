@@ -11,14 +11,16 @@ use lib.ListN.{length}
 use Rattle.paper.specs.declared.Geometry.{Geometry}
 use Rattle.paper.specs.declared.PageState.{PageState}
 use Rattle.paper.specs.declared.PageState.the-variants.{Open, PartialOpen, Closed, Corrupted}
-use Rattle.paper.specs.Chip.{roundUp, roundDown, headerSize, dataSize, erasePage, Try, fails, gives}
+use Rattle.paper.specs.Chip.{roundUp, roundDown, headerSize, dataSize, Event, erasePage, Try, fails, gives}
 use Rattle.paper.specs.Scan.{pageWalk, freeSpot, serves, anyLive}
 use Rattle.paper.specs.Pages.{state, same, setStart, setEnd, next, youngest}
 use Rattle.paper.specs.Refusals.{lengthLimit}
 use Rattle.paper.specs.Calls.{Spot, full, at, tooBig, takePage, turnPage, findSpot, spotOn, spotStep, spotFor, pushAt, push}
 use Rattle.laws.proofs.Accepted.{neither, Laid}
+use Rattle.laws.proofs.ErasePage.{erase-each}
 use Rattle.laws.proofs.Ring.{next-in}
 use Rattle.demand1.specs.Range.{Lies, Each}
+use Rattle.demand1.proofs.Lists.{each-append}
 use Rattle.demand1.proofs.Pages.{layout}
 use Rattle.laws.proofs.Headers.{header-behind}
 use Rattle.demand1.proofs.Walks.{Room, spot-room, page-room}
@@ -49,13 +51,19 @@ module _ {g : Geometry} {n : ℕ} (S : Laid g n) (m : ℕ) (small : tooBig g m �
 
   module _ {im jm : List ℕ} (L : Alike g n im jm) (over : Bool) (y x : ℕ) (hy : y < g .pages) (hx : x < g .pages) where
     both-take : Both g (SpotFine g m) (takePage g over y x im) (takePage g over y x jm)
-    unfolding takePage erasePage
+    unfolding takePage
     both-take = rw (← walks S L x hx) (both-cond (not over && anyLive (pageWalk g im x .heads)) (λ e. record { one = refl; lies = tt; fine = tt })
-        (λ e. record { one = refl; lies = (hx, by (eqb x y)); fine = page-room S im (L .long) x hx m fits }))
+        (λ e. record { one = refl; lies = lie; fine = page-room S im (L .long) x hx m fits }))
       where
-        by : (t : Bool) → Each (Lies g) (cond t [] (setEnd g y ∷ []) ++ (setStart g x ∷ []))
+        then : Bool → List Event
+        then t = cond t [] (setEnd g y ∷ []) ++ (setStart g x ∷ [])
+
+        by : (t : Bool) → Each (Lies g) (then t)
         by true = (start-lies S x hx, tt)
         by false = (end-lies S y hy, (start-lies S x hx, tt))
+
+        lie : Each (Lies g) (erasePage g x ++ then (eqb x y))
+        lie = each-append (Lies g) (erasePage g x) (then (eqb x y)) (erase-each g x (Lies g) hx) (by (eqb x y))
 
     both-turn : (s : PageState) → Both g (SpotFine g m) (turnPage g over y x s im) (turnPage g over y x s jm)
     unfolding turnPage

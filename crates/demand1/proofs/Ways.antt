@@ -10,7 +10,7 @@ use lib.Dec.{eqb}
 use lib.ListN.{length}
 use Rattle.paper.specs.declared.Geometry.{Geometry}
 use Rattle.paper.specs.declared.PageState.the-variants.{Open, Corrupted}
-use Rattle.paper.specs.Chip.{dataStart, pageOf, pageBytes, Event, store, erase, copy, erasePage, imageBy, imageAfter, Plan, plan, bind, andThen, Try, fails, gives}
+use Rattle.paper.specs.Chip.{dataStart, pageOf, pageBytes, Event, store, erase, copy, erasePage, imageAfter, Plan, plan, bind, andThen, Try, fails, gives}
 use Rattle.paper.specs.Scan.{Head, pageWalk, walkOn, payloads}
 use Rattle.paper.specs.Pages.{state, same, next, around}
 use Rattle.paper.specs.Calls.{Met, passed, long, met, readHeads, Stand, fromAddress, afterPage, Outcome, nothing, short, this, onMet, readPage, leavePage, nextItem}
@@ -73,16 +73,16 @@ module _ {g : Geometry} {n : ℕ} (S : Laid g n) (im : List ℕ) (b old : ℕ) (
 
   -- ---- a page is erased
 
-  erase-known : (p : ℕ) → p < g .pages → (cur : List ℕ) → Known cur → Known (imageBy g (erase p) cur)
+  erase-known : (p : ℕ) → p < g .pages → (cur : List ℕ) → Known cur → Known (imageAfter g (erasePage g p) cur)
   erase-known p h cur K = record { long = erase-long S cur (K .long) p h; pages = λ q k. by q k (apart q p) (K .pages q k) }
     where
       by : (q : ℕ) → q < g .pages → Apart q p → (state g cur q ≡ Open) ⊎ (pageBytes g cur q ≡ pageBytes g im q)
-          → (state g (imageBy g (erase p) cur) q ≡ Open) ⊎ (pageBytes g (imageBy g (erase p) cur) q ≡ pageBytes g im q)
-      by q k (is e) x = inl (subst (λ (y : ℕ). state g (imageBy g (erase p) cur) y ≡ Open) (sym e) (erase-open S cur (K .long) p h))
-      by q k (differs e) (inl o) = inl (state-same S (imageBy g (erase p) cur) cur q (erase-other S cur (K .long) p h q k e) ∙ o)
+          → (state g (imageAfter g (erasePage g p) cur) q ≡ Open) ⊎ (pageBytes g (imageAfter g (erasePage g p) cur) q ≡ pageBytes g im q)
+      by q k (is e) x = inl (subst (λ (y : ℕ). state g (imageAfter g (erasePage g p) cur) y ≡ Open) (sym e) (erase-open S cur (K .long) p h))
+      by q k (differs e) (inl o) = inl (state-same S (imageAfter g (erasePage g p) cur) cur q (erase-other S cur (K .long) p h q k e) ∙ o)
       by q k (differs e) (inr o) = inr (erase-other S cur (K .long) p h q k e ∙ o)
 
-  erase-ahead : (i : ℕ) → i < g .pages → (cur : List ℕ) → Ahead i cur → Ahead (suc i) (imageBy g (erase (turn g old i)) cur)
+  erase-ahead : (i : ℕ) → i < g .pages → (cur : List ℕ) → Ahead i cur → Ahead (suc i) (imageAfter g (erasePage g (turn g old i)) cur)
   erase-ahead i k cur A = record {
     known = erase-known p h cur (A .known);
     fresh = λ j l r. erase-other S cur (A .known .long) p h (turn g old j) (turn-lt g old j ho (omega arith)) (not-yet j l r) ∙ A .fresh j (omega arith) r;
@@ -98,9 +98,9 @@ module _ {g : Geometry} {n : ℕ} (S : Laid g n) (im : List ℕ) (b old : ℕ) (
       not-yet : (j : ℕ) → suc i ≤ j → j < g .pages → turn g old j ≡ p → ⊥
       not-yet j l r e = let z = turn-once g old j i ho r k e in omega arith
 
-      by : Apart old p → same (state g (imageBy g (erase p) cur) old) Corrupted ≡ false
-      by (is e) = rw (ap (state g (imageBy g (erase p) cur)) e ∙ erase-open S cur (A .known .long) p h)
-      by (differs e) = rw (state-same S (imageBy g (erase p) cur) cur old (erase-other S cur (A .known .long) p h old ho e)) (A .safe)
+      by : Apart old p → same (state g (imageAfter g (erasePage g p) cur) old) Corrupted ≡ false
+      by (is e) = rw (ap (state g (imageAfter g (erasePage g p) cur)) e ∙ erase-open S cur (A .known .long) p h)
+      by (differs e) = rw (state-same S (imageAfter g (erasePage g p) cur) cur old (erase-other S cur (A .known .long) p h old ho e)) (A .safe)
 
   -- ---- leaving a page
 
@@ -112,7 +112,7 @@ module _ {g : Geometry} {n : ℕ} (S : Laid g n) (im : List ℕ) (b old : ℕ) (
   left-none clears p = copies-none (left clears p) (left-does g Kept clears p (λ t. tt))
 
   left-ahead : (clears : Bool) (i : ℕ) → i < g .pages → (cur : List ℕ) → Ahead i cur → Ahead (suc i) (imageAfter g (left clears (turn g old i)) cur)
-  unfolding imageAfter erasePage
+  unfolding imageAfter
   left-ahead true i k cur A = erase-ahead i k cur A
   left-ahead false i k cur A = record { known = A .known; fresh = λ j l r. A .fresh j (omega arith) r; safe = A .safe }
 

@@ -2,7 +2,7 @@
 use Prim.Native.Nat.{ℕ, _+_, _≤_, _<_}
 use Rattle.paper.specs.declared.Geometry.{Geometry}
 use Rattle.paper.specs.Chip.{roundUp, headerSize}
-use Rattle.chip.specs.Within.{Good}
+use Rattle.chip.specs.Within.{addressLimit, Good}
 
 -- the address behind an item of len bytes at address a
 abbrev pub after : Geometry → ℕ → ℕ → ℕ
@@ -18,4 +18,4 @@ pub record Inside (g : Geometry) (n a e : ℕ) : Type 0 where
 pub record Room (g : Geometry) (n a len : ℕ) : Type 0 where
   pub good : Good g
   pub fits : after g a len ≤ n
-  pub top : after g a len < 4294967296
+  pub top : after g a len < addressLimit

@@ -6,8 +6,10 @@ pub mod Marks
 pub mod Events
 pub mod Rounding
 pub mod Headers
+pub mod Looking
 pub mod Places
 pub mod PageBytes
+pub mod ErasePage
 pub mod Ring
 pub mod Standing
 pub mod Accepted

@@ -4,13 +4,14 @@ use mathlib.Core.Bool.{Bool, true, false, cond}
 use mathlib.Core.List.{List, [], _∷_, _++_, append-nil}
 use Prim.Native.Nat.{ℕ, _*_, _≤_, _<_}
 use native.Mathlib.Omega.{arith}
-use lib.ListN.{length, replicate, length-replicate}
+use lib.ListN.{length}
 use Rattle.paper.specs.declared.Geometry.{Geometry}
 use Rattle.paper.specs.declared.PageState.{PageState}
 use Rattle.paper.specs.declared.PageState.the-variants.{Corrupted}
-use Rattle.paper.specs.Chip.{erasePage, imageBy, imageAfter, pageStart, put}
+use Rattle.paper.specs.Chip.{erasePage, imageAfter}
 use Rattle.paper.specs.Pages.{state, same, repairs}
-use Rattle.laws.proofs.PageBytes.{state-same, put-elsewhere}
+use Rattle.laws.proofs.ErasePage.{erase-others}
+use Rattle.laws.proofs.PageBytes.{state-same}
 use Rattle.chip.specs.declared.Budget.{Budget}
 use Rattle.chip.specs.declared.Spent.{Spent}
 use Rattle.chip.specs.Within.{Within}
@@ -57,12 +58,9 @@ module _ {g : Geometry} {b : Budget} {i o : List ℕ} {r : Spent} (im : List ℕ
 
 erase-elsewhere : (g : Geometry) (im : List ℕ) → Within g (length im) → (p q : ℕ) → p < g .pages → q < g .pages → (q ≡ p → ⊥)
     → state g (imageAfter g (erasePage g p) im) q ≡ state g im q
-unfolding erasePage imageAfter imageBy
 erase-elsewhere g im w p q hp hq n =
-    let ff : List ℕ = replicate (g .page) 0xff in
     let marks : 2 * g .word ≤ g .page = omega (arith, w .good .room) in
-    state-same g marks (put (pageStart g p) ff im) im q
-    (put-elsewhere g im (w .ends) p (pageStart g p) ff hp (omega arith) (omega (arith, length-replicate {A = ℕ} (g .page) 0xff)) q hq n)
+    state-same g marks (imageAfter g (erasePage g p) im) im q (erase-others g p im (w .ends) hp q hq n)
 
 pub repairs-elsewhere : (g : Geometry) (im : List ℕ) → Within g (length im) → (p q : ℕ) → p < g .pages → q < g .pages → (q ≡ p → ⊥)
     → state g (imageAfter g (repairs g im (p ∷ [])) im) q ≡ state g im q

@@ -12,6 +12,7 @@ use Rattle.paper.specs.Chip.{copy, roundUp, headerSize, dataEnd, pageOf, storeC
 use Rattle.paper.specs.Scan.{Head, walkOn, live, present}
 use Rattle.paper.specs.Calls.{Met, passed, long, met, readHeads}
 use Rattle.chip.specs.declared.Budget.{Budget}
+use Rattle.chip.specs.Within.{addressLimit}
 use Rattle.chip.specs.Run.{Acted}
 use Rattle.chip.proofs.Running.{acted-copies}
 use Rattle.chip.proofs.Binding.{showed-none, showed-plan, showed-and-then, showed-turned}
@@ -80,7 +81,7 @@ module _ (g : Geometry) (im : List ℕ) (end n : ℕ) where
   none-read a d e b = rw (by-lives a [] e) (showed-none g b im passed d)
 
   -- the first of them lies in the image
-  pub first-in : {a : ℕ} {x : Item} → Inside g (length im) a end → end < 4294967296 → Reaches g im end a x → ItemIn g (length im) x
+  pub first-in : {a : ℕ} {x : Item} → Inside g (length im) a end → end < addressLimit → Reaches g im end a x → ItemIn g (length im) x
   first-in i top r = record { good = i .good; fits = omega (arith, r .fits, i .ends); top = omega (arith, r .fits) }
 
   -- item x is the first of them; reading it took the buffer from d to e and answered m

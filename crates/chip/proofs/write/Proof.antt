@@ -8,6 +8,7 @@ use lib.ListN.{length, take, drop}
 use Rattle.paper.specs.Chip.{roundUp, writes}
 use Rattle.laws.proofs.Parts.{length-padded}
 use Rattle.chip.specs.declared.Spent.{Spent}
+use Rattle.chip.specs.Within.{addressLimit}
 use Rattle.chip.specs.Run.{Did}
 use Rattle.chip.proofs.Running.{did-none}
 use Rattle.chip.proofs.Writing.{writes-end, write-cut, write-on}
@@ -17,7 +18,7 @@ use Rattle.chip.proofs.write.Tie as tie
 
 abbrev Inv-loop : tie.InvT-loop
 Inv-loop image₀ g bytes w budget₀ i₀ a₀ image budget i a = (length image ≡ length image₀)
-    × (a + roundUp (g .word) (length bytes - i) ≤ length image₀) × (a + roundUp (g .word) (length bytes - i) < 4294967296)
+    × (a + roundUp (g .word) (length bytes - i) ≤ length image₀) × (a + roundUp (g .word) (length bytes - i) < addressLimit)
     × ((o : List ℕ) (r : Spent) → Did g budget (writes g a (drop i bytes)) image o r → Did g budget₀ (writes g a₀ bytes) image₀ o r)
 
 abbrev μ-loop : tie.MeasureT-loop

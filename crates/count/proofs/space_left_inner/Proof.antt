@@ -5,13 +5,14 @@ use Prim.Native.Nat.{_-_, _*_, _≤_}
 use Rattle.paper.specs.declared.PageState.the-variants.{Corrupted}
 use Rattle.paper.specs.Pages.{same, around, allPages}
 use Rattle.paper.specs.Calls.{spaceBy, spaceOf, space}
+use Rattle.chip.specs.Within.{addressLimit}
 use Rattle.count.proofs.Spaces.{plus, sum-first, sum-next, sum-fails, sum-last}
 use Rattle.count.proofs.space_left_inner.Statement.{statement}
 use Rattle.count.proofs.space_left_inner.Tie as tie
 
 abbrev Inv-loop : tie.InvT-loop
 Inv-loop image g table total₀ p₀ total p =
-    (p ≤ g .pages) × (total ≤ 4294967296 * p) × (spaceOf g image (allPages g) ≡ plus total (spaceOf g image (around g (g .pages - p) p)))
+    (p ≤ g .pages) × (total ≤ addressLimit * p) × (spaceOf g image (allPages g) ≡ plus total (spaceOf g image (around g (g .pages - p) p)))
 
 abbrev μ-loop : tie.MeasureT-loop
 μ-loop image g table total₀ p₀ total p = g .pages - p

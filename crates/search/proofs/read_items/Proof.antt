@@ -6,6 +6,7 @@ use mathlib.Core.List.{List}
 use Prim.Native.Nat.{ℕ, _-_, _<_}
 use lib.ListN.{length}
 use Rattle.paper.specs.Calls.{Met}
+use Rattle.chip.specs.Within.{addressLimit}
 use Rattle.item.specs.Places.{Inside}
 use Rattle.item.proofs.Live.{reaches-of, none-of}
 use Rattle.item.proofs.Walking.{inside-on}
@@ -15,7 +16,7 @@ use Rattle.search.proofs.read_items.Statement.{statement}
 use Rattle.search.proofs.read_items.Tie as tie
 
 abbrev Inv-loop : tie.InvT-loop
-Inv-loop image buffer₀ g end start buffer from = Inside g (length image) (from .0) (end .0) × (end .0 < 4294967296) × (length buffer ≡ length buffer₀)
+Inv-loop image buffer₀ g end start buffer from = Inside g (length image) (from .0) (end .0) × (end .0 < addressLimit) × (length buffer ≡ length buffer₀)
     × ((e : List ℕ) (x : Met) → Copied g (reading g image (end .0) (length buffer₀) (from .0)) image buffer e x
     → Copied g (reading g image (end .0) (length buffer₀) (start .0)) image buffer₀ e x)
 
