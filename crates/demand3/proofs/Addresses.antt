@@ -20,7 +20,17 @@ use Rattle.demand3.proofs.Payloads.{payloads-append}
 
 -- ---- the payloads
 
-payloads-present : (hs : List Head) → payloads (presents hs) ≡ payloads hs
+pub presents-append : (a b : List Head) → presents (a ++ b) ≡ presents a ++ presents b
+unfolding presents
+presents-append [] b = refl
+presents-append (h ∷ a) b = by (present h) (presents-append a b)
+  where
+    by : (t : Bool) → presents (a ++ b) ≡ presents a ++ presents b
+        → cond t (h ∷ presents (a ++ b)) (presents (a ++ b)) ≡ cond t (h ∷ presents a) (presents a) ++ presents b
+    by true e = ap (λ (l : List Head). h ∷ l) e
+    by false e = e
+
+pub payloads-present : (hs : List Head) → payloads (presents hs) ≡ payloads hs
 unfolding payloads presents
 payloads-present [] = refl
 payloads-present (h ∷ hs) = by (present h) refl (payloads-present hs)
@@ -51,6 +61,10 @@ unfolding payloads
 payloads-from g im (fails u) y = refl
 payloads-from g im (gives o) (fails u) = refl
 payloads-from g im (gives o) (gives y) = payloads-on g im y (from g o)
+
+pub payloads-waiting : (g : Geometry) (im : List ℕ) → payloads (waitingHeads g im) ≡ waiting g im
+unfolding waitingHeads waiting
+payloads-waiting g im = payloads-from g im (oldest g im) (youngest g im)
 
 -- ---- each is present in a page
 
@@ -91,8 +105,8 @@ module _ (g : Geometry) (im : List ℕ) where
   stand-from (gives o) (gives y) h = stand-on y (from g o) (from-in g o h)
 
 pub always-addressed : AlwaysAddressed
-unfolding waitingHeads waiting
+unfolding waitingHeads
 always-addressed g im some = record {
-  listed = payloads-from g im (oldest g im) (youngest g im);
+  listed = payloads-waiting g im;
   stand = stand-from g im (oldest g im) (youngest g im) (oldest-in g im some);
 }

@@ -142,9 +142,9 @@ refusals-in g im (q ∷ ps) p x h m = by (List·Memᴰ·cases-cons h) (λ k. ref
 abbrev pub FromBefore : Geometry → List ℕ → ℕ → List Event → Type 0
 FromBefore g im p es = (pageWalk g (imageAfter g es im) p .refused ≡ []) ⊎ (Avoids p es × (pageWalk g (imageAfter g es im) p ≡ pageWalk g im p))
 
--- words of 4: no address that was refused is accepted after the events es
+-- words below 8: no address that was refused is accepted after the events es
 abbrev pub StayRefused : Geometry → List ℕ → Ghost → List Event → Type 0
-StayRefused g im gh es = g .word ≡ 4 → Accepts g (imageAfter g es im) (λ a. List·Memᴰ a (kept g es (refusals g im (allPages g) ++ gh .refusedBefore)) → ⊥)
+StayRefused g im gh es = g .word < 8 → Accepts g (imageAfter g es im) (λ a. List·Memᴰ a (kept g es (refusals g im (allPages g) ++ gh .refusedBefore)) → ⊥)
 
 -- then page p, as it is after es, has refused nothing that is accepted after es and fs
 pub unmet : {g : Geometry} (im : List ℕ) → Laid g (length im) → (gh : Ghost) (es : List Event) {o b : ℕ} → Inv g (imageAfter g es im) o b
@@ -162,4 +162,4 @@ unmet {g} im G gh es I fs p hp O A F h m k = by (G .word) O
     by (four q) (inr r) =
         let k₁ : List·Memᴰ (h .place) (pageWalk g im p .refused) = subst (λ (w : Walk). List·Memᴰ (h .place) (w .refused)) (r .1) k in
         let k₂ = Memᴰ·append-left (gh .refusedBefore) (refusals-in g im (allPages g) p (h .place) (all-pages g p hp) k₁) in
-        F q p hp h m (kept-in im G p hp (h .place) (refusedAt k₁) (es ++ fs) _ (avoid-append p es fs (r .0) A) k₂)
+        F (omega arith) p hp h m (kept-in im G p hp (h .place) (refusedAt k₁) (es ++ fs) _ (avoid-append p es fs (r .0) A) k₂)

@@ -15,11 +15,13 @@ use Rattle.paper.specs.Waiting.{waiting}
 use Rattle.paper.specs.Fifo.{Bytes}
 use Rattle.laws.proofs.Accepted.{Laid}
 use Rattle.laws.proofs.Ring.{turn, turn-lt, turn-once}
+use Rattle.demand3.specs.Addresses.{presents, waitingHeads}
 use Rattle.demand3.proofs.Blank.{blank-replicate}
 use Rattle.demand3.proofs.Bytes.{bytes-replicate}
 use Rattle.demand3.proofs.Courses.{blank-walk}
 use Rattle.demand3.proofs.Views.{View, view, stateIn, erasedView, view-state}
 use Rattle.demand3.proofs.RingShape.{RingShape, cur-in}
+use Rattle.demand3.proofs.ListedHeads.{headsIn, runHeads, waiting-heads-are}
 use Rattle.demand3.proofs.Listed.{waiting-is, presentIn, run, run-same}
 use Rattle.demand3.proofs.Changed.{Changed, every-page}
 
@@ -71,8 +73,15 @@ module _ {g : Geometry} {im : List ℕ} {o b : ℕ} (I : Inv g im o b) where
   unfolding pageWalk
   quiet-walk p h k = I .pages-ok p h .quiet k
 
+  open-none : (p : ℕ) → p < g .pages → state g im p ≡ Open → headsIn g im p ≡ []
+  unfolding presents
+  open-none p h e = ap (λ (w : Walk). presents (w .heads)) (open-walk p h e)
+
+  pub listed-heads : waitingHeads g im ≡ runHeads g im o 0 (suc b)
+  listed-heads = waiting-heads-are g im o b (I .shape) open-none
+
   pub listed : waiting g im ≡ run g im o 0 (suc b)
-  listed = waiting-is g im o b (I .shape) open-empty
+  listed = waiting-is g im o b (I .shape) open-none
 
   -- another image whose pages have the same items, from i places after the oldest page on
   pub runs-same : (jm : List ℕ) (i m : ℕ) → i + m ≤ g .pages → ((j : ℕ) → i ≤ j → j < i + m → pageWalk g jm (turn g o j) ≡ pageWalk g im (turn g o j))

@@ -17,6 +17,7 @@ pub mod Addresses
 pub mod Views
 pub mod FirstFound
 pub mod RingShape
+pub mod ListedHeads
 pub mod Listed
 pub mod Changed
 pub mod Invariant
@@ -36,7 +37,9 @@ pub mod SpotSearch
 pub mod Step
 pub mod Push
 pub mod Copies
+pub mod PresentItem
 pub mod Popping
+pub mod ListedItem
 pub mod NextPage
 pub mod Search
 pub mod PeekPop

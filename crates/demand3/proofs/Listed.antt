@@ -1,20 +1,19 @@
 -- The list as the present items of a run of pages, from the oldest to the current one. Assumes nothing.
-use mathlib.Core.Bool.{cond, false}
-use mathlib.Core.List.{List, [], _++_, append-assoc}
+use mathlib.Core.List.{List, [], _++_}
 use mathlib.Core.Path.{_≡_, refl, sym, ap, ap₂, _∙_}
 use Prim.Native.Nat.{ℕ, zero, suc, _+_, _≤_, _<_}
-use native.Mathlib.Nat.{add-zero, zero-add, suc-add}
 use native.Mathlib.Omega.{arith}
-use borrow.Author.Tests.{eq-eqb, ne-eqb}
-use lib.Dec.{eqb}
 use Rattle.paper.specs.declared.Geometry.{Geometry}
-use Rattle.paper.specs.declared.PageState.the-variants.{Open, PartialOpen}
-use Rattle.paper.specs.Scan.{pageWalk, payloads}
-use Rattle.paper.specs.Pages.{around, from, state, same}
-use Rattle.paper.specs.Waiting.{waiting, waitingOn}
-use Rattle.laws.proofs.Ring.{turn, turn-lt, turn-zero, turn-once, turn-suc, next-turn}
-use Rattle.laws.proofs.Sides.{Side, below, above, side}
-use Rattle.demand3.proofs.RingShape.{Now, partly, openAfter, openAll, RingShape, youngest-is, oldest-is}
+use Rattle.paper.specs.declared.PageState.the-variants.{Open}
+use Rattle.paper.specs.Scan.{Head, pageWalk, payloads}
+use Rattle.paper.specs.Pages.{state}
+use Rattle.paper.specs.Waiting.{waiting}
+use Rattle.laws.proofs.Ring.{turn, turn-suc}
+use Rattle.demand3.specs.Addresses.{presents}
+use Rattle.demand3.proofs.Payloads.{payloads-append}
+use Rattle.demand3.proofs.Addresses.{payloads-present, payloads-waiting}
+use Rattle.demand3.proofs.RingShape.{RingShape}
+use Rattle.demand3.proofs.ListedHeads.{headsIn, runHeads, heads-append, waiting-heads-are}
 
 -- the present items of page p
 abbrev pub presentIn : Geometry → List ℕ → ℕ → List (List ℕ)
@@ -24,15 +23,6 @@ presentIn g im p = payloads (pageWalk g im p .heads)
 unfoldable pub run : Geometry → List ℕ → ℕ → ℕ → ℕ → List (List ℕ)
 run g im o i zero = []
 run g im o i (suc m) = presentIn g im (turn g o i) ++ run g im o (suc i) m
-
-pub run-append : (g : Geometry) (im : List ℕ) (o i m k : ℕ) → run g im o i (m + k) ≡ run g im o i m ++ run g im o (i + m) k
-unfolding run
-run-append g im o i zero k = rw (zero-add, add-zero)
-run-append g im o i (suc m) k =
-    let z : suc i + m ≡ i + suc m = omega arith in
-    let p : List (List ℕ) = presentIn g im (turn g o i) in
-    rw suc-add (ap (λ (l : List (List ℕ)). p ++ l) (run-append g im o (suc i) m k ∙ ap (λ (x : ℕ). run g im o (suc i) m ++ run g im o x k) z)
-    ∙ sym (append-assoc p (run g im o (suc i) m) (run g im o (i + suc m) k)))
 
 -- two images whose pages have the same items
 pub run-same : (g : Geometry) (im jm : List ℕ) (o i m : ℕ) → ((j : ℕ) → i ≤ j → j < i + m → presentIn g im (turn g o j) ≡ presentIn g jm (turn g o j))
@@ -49,43 +39,21 @@ run-suc g im o i zero h k = refl
 run-suc g im o i (suc m) h k =
     ap₂ (λ (x : ℕ) (y : List (List ℕ)). presentIn g im x ++ y) (turn-suc g o i h (omega arith)) (run-suc g im o (suc i) m h (omega arith))
 
+-- the list of a run is that of its headers
+pub payloads-run : (g : Geometry) (im : List ℕ) (o i m : ℕ) → payloads (runHeads g im o i m) ≡ run g im o i m
+unfolding run runHeads payloads
+payloads-run g im o i zero = refl
+payloads-run g im o i (suc m) =
+    let hs : List Head = pageWalk g im (turn g o i) .heads in
+    payloads-append (presents hs) (runHeads g im o (suc i) m)
+    ∙ ap₂ (λ (x y : List (List ℕ)). x ++ y) (payloads-present hs) (payloads-run g im o (suc i) m)
+
 -- where Open pages have no present item, the list is the run from the oldest page to the current one
-module _ (g : Geometry) (im : List ℕ) (o b : ℕ) (S : RingShape g im o b) (E : (p : ℕ) → p < g .pages → state g im p ≡ Open → presentIn g im p ≡ []) where
-  wait : (m i k : ℕ) → i + m ≡ b → m < k → waitingOn g im (turn g o b) (around g k (turn g o i)) ≡ run g im o i (suc m)
-  unfolding waitingOn around run
-  wait m i zero e h = let z : ⊥ = omega arith in absurd z
-  wait zero i (suc k) e h =
-      let z : i ≡ b = omega arith in
-      rw (z, eq-eqb (turn g o b) (turn g o b) refl)
-  wait (suc m) i (suc k) e h =
-      let r = S .run-in in
-      let ne : eqb (turn g o i) (turn g o b) ≡ false =
-      ne-eqb (turn g o i) (turn g o b) (λ q. let z : i ≡ b = turn-once g o i b (S .old-in) (omega arith) (S .run-in) q in omega arith) in
-      rw (ne, next-turn g o i (S .old-in) (omega arith))
-      (ap (λ (l : List (List ℕ)). presentIn g im (turn g o i) ++ l) (by (side (suc i) b) (wait m (suc i) k (omega arith) (omega arith))))
-    where
-      later : List (List ℕ)
-      later = waitingOn g im (turn g o b) (around g k (turn g o (suc i)))
+pub waiting-is : (g : Geometry) (im : List ℕ) (o b : ℕ) → RingShape g im o b → ((p : ℕ) → p < g .pages → state g im p ≡ Open → headsIn g im p ≡ [])
+    → waiting g im ≡ run g im o 0 (suc b)
+waiting-is g im o b S E = sym (payloads-waiting g im) ∙ ap payloads (waiting-heads-are g im o b S E) ∙ payloads-run g im o 0 (suc b)
 
-      Goal : Type 0
-      Goal = cond (same (state g im (turn g o (suc i))) Open) [] later ≡ run g im o (suc i) (suc m)
-
-      on : suc i ≡ b → later ≡ run g im o (suc i) (suc m) → Now (state g im (turn g o b)) o b → Goal
-      on z ih (partly q) =
-          let s : state g im (turn g o (suc i)) ≡ PartialOpen = rw z q in
-          rw s ih
-      on z ih (openAfter q f) =
-          let s : state g im (turn g o (suc i)) ≡ Open = rw z q in
-          let zm : m ≡ 0 = omega arith in
-          rw (s, zm, E (turn g o (suc i)) (turn-lt g o (suc i) (S .old-in) (omega (arith, S .run-in))) s)
-      on z ih (openAll q f f′) = let s : ⊥ = omega arith in absurd s
-
-      by : Side (suc i) b → later ≡ run g im o (suc i) (suc m) → Goal
-      by (below l) ih = rw (S .closed (suc i) l) ih
-      by (above l) ih = on (omega arith) ih (S .now)
-
-  pub waiting-is : waiting g im ≡ run g im o 0 (suc b)
-  unfolding waiting from
-  waiting-is =
-      rw (oldest-is g im o b S, youngest-is g im o b S)
-      (ap (λ (x : ℕ). waitingOn g im (turn g o b) (around g (g .pages) x)) (sym (turn-zero g o (S .old-in))) ∙ wait b 0 (g .pages) (zero-add b) (S .run-in))
+pub run-append : (g : Geometry) (im : List ℕ) (o i m k : ℕ) → run g im o i (m + k) ≡ run g im o i m ++ run g im o (i + m) k
+run-append g im o i m k =
+    sym (payloads-run g im o i (m + k)) ∙ ap payloads (heads-append g im o i m k) ∙ payloads-append (runHeads g im o i m) (runHeads g im o (i + m) k)
+    ∙ ap₂ (λ (x y : List (List ℕ)). x ++ y) (payloads-run g im o i m) (payloads-run g im o (i + m) k)

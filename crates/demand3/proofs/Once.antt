@@ -107,7 +107,7 @@ module _ {g : Geometry} {im : List ℕ} {o b : ℕ} (I : Inv g im o b) (gh : Gho
 
   refused-stay : (k j : ℕ) → storeCount es ≤ k → k - storeCount es ≡ j → StayRefused g im gh (es ++ before j it)
   unfolding imageNext ghostNext eventsOf
-  refused-stay k j h e w4 = rw (is, before-more k es it h ∙ ap (λ (x : ℕ). es ++ before x it) e) at (Fs k .noneAgain w4)
+  refused-stay k j h e nw = rw (is, before-more k es it h ∙ ap (λ (x : ℕ). es ++ before x it) e) at (Fs k .noneAgain nw)
 
   either : (k : ℕ) → (listed k ≡ waiting g im) ⊎ (listed k ≡ longer)
   either k = rw is at (at-step I gh slip hb t R q₀ N (cutAfter k) (Fs k) .claim)
@@ -198,7 +198,7 @@ module _ {g : Geometry} {im : List ℕ} {o b : ℕ} (I : Inv g im o b) (gh : Gho
       taken k l =
           let j : ℕ = k - storeCount E in
           let bm : before k (E ++ wr) ≡ E ++ before j wr = before-more k E wr (omega arith) in
-          let st : StayRefused g im gh (E ++ before j wr) = λ w4. rw (pop-is, bm) at (Fs k .noneAgain w4) in
+          let st : StayRefused g im gh (E ++ before j wr) = λ nw. rw (pop-is, bm) at (Fs k .noneAgain nw) in
           list-at g im (pops buf) pop-is k bm
           ∙ peekpop.taken-list I buf gh h a X (before j wr) (λ p. avoid-before p j wr (peekpop.avoids I buf gh h a X p)) st (zeroed (X .first) j (omega arith))
 

@@ -140,7 +140,7 @@ module _ {g : Geometry} {im : List ℕ} {o b : ℕ} (I : Inv g im o b) (buf : Li
     found-step : (w : Power) → Fair g im gh (pops buf) w → Step g im (pops buf) w
     unfolding imageNext ghostNext eventsOf
     found-step whole Fr =
-        let st : StayRefused g im gh (E ++ wr) = λ w4. rw pl at (Fr .noneAgain w4) in
+        let st : StayRefused g im gh (E ++ wr) = λ nw. rw pl at (Fr .noneAgain nw) in
         let z = zeroed-all F in
         let shown-buf : List ℕ = bufferAfter g E im buf in
         let B : bufferAfter g (E ++ wr) im buf ≡ shown-buf = buffer-append g E wr im buf ∙ buffer-writes g (h .place) (encode g 0 (h .len)) fin shown-buf in
@@ -157,7 +157,7 @@ module _ {g : Geometry} {im : List ℕ} {o b : ℕ} (I : Inv g im o b) (buf : Li
         later l (below m) =
             let j : ℕ = k - storeCount E in
             let bm : before k (E ++ wr) ≡ E ++ before j wr = before-more k E wr l in
-            let st : StayRefused g im gh (E ++ before j wr) = λ w4. rw (pl, bm) at (Fr .noneAgain w4) in
+            let st : StayRefused g im gh (E ++ before j wr) = λ nw. rw (pl, bm) at (Fr .noneAgain nw) in
             let av : (p : ℕ) → Avoids p (before j wr) = λ p. avoid-before p j wr (avoids p) in
             let z = zeroed F j m in
             cut-step im (pops buf) pl k {o = F .old} {b = F .runs} (rw bm (taken-inv (before j wr) av st z)) (inr (rw bm (taken-list (before j wr) av st z)))

@@ -143,7 +143,7 @@ fairly-holds g im gh c w one e =
     record {
       counted = counts-holds c w (p .0);
       slip = small-holds (slipOf c) (q .0);
-      noneAgain = λ four. sole-page g after gone one (r .0);
+      noneAgain = λ narrow. sole-page g after gone one (r .0);
       noPassing = stands-holds g im c w (r .1);
     }
 

@@ -137,7 +137,7 @@ module _ {g : Geometry} {im : List ℕ} {o b : ℕ} (I : Inv g im o b) (gh : Gho
     at-step whole F =
         let n : ℕ = itemWords g slip in
         let all : before n it ≡ it = before-all n it (omega (arith, count-item g (I .good .low) slip a)) in
-        let F₁ : StayRefused g im gh (es ++ before n it) = rw all (λ w4. rw pl at (F .noneAgain w4)) in
+        let F₁ : StayRefused g im gh (es ++ before n it) = rw all (λ nw. rw pl at (F .noneAgain nw)) in
         let A = words-added n F₁ (λ h k. let z : ⊥ = omega arith in absurd z) in
         let T = words-traced whole n (λ k. header-is g im slip t es a q whole 0 refl) A in
         let l = A .all (omega arith) ∙ ap (λ (x : List (List ℕ)). x ++ (slip ∷ [])) same-list in
@@ -153,7 +153,7 @@ module _ {g : Geometry} {im : List ℕ} {o b : ℕ} (I : Inv g im o b) (gh : Gho
             let j : ℕ = k - storeCount es in
             let m : ℕ = wordsFor (g .word) (headerSize g) - 1 in
             let bm : before k (es ++ it) ≡ es ++ before j it = before-more k es it l in
-            let F₁ : StayRefused g im gh (es ++ before j it) = λ w4. rw (pl, bm) at (F .noneAgain w4) in
+            let F₁ : StayRefused g im gh (es ++ before j it) = λ nw. rw (pl, bm) at (F .noneAgain nw) in
             let P₁ : headerSize g ≤ j * g .word → j < itemWords g slip → PassesAsSlip S slip (imageAfter g (es ++ before j it) im) =
             λ h z. rw (pl, bm) at (F .noPassing a (rw (begun m (past-header k l h)) (List·Memᴰ·head refl))) in
             let A = words-added j F₁ P₁ in

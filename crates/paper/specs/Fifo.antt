@@ -133,7 +133,7 @@ Begun g im gh = Accepts g im (λ a. List·Memᴰ a (gh .begun))
 abbrev pub NoneAgain : Geometry → List ℕ → Ghost → Type 0
 NoneAgain g im gh = Accepts g im (λ a. List·Memᴰ a (gh .refusedBefore) → ⊥)
 
--- no false header, in document 01's words. A history assumes less: NoneAgain, and this at words of 4 only
+-- no false header, in document 01's words. A history assumes less: NoneAgain, and this at words below 8 only
 abbrev pub NoFalse : Geometry → List ℕ → Ghost → Type 0
 NoFalse g im gh = Begun g im gh × NoneAgain g im gh
 
@@ -157,7 +157,7 @@ Bytes (b ∷ bs) = (b < 256) × Bytes bs
 pub record Fair (g : Geometry) (im : List ℕ) (gh : Ghost) (c : Call) (w : Power) : Type 0 where
   pub counted : Counted c w
   pub slip : Bytes (slipOf c)
-  pub noneAgain : g .word ≡ 4 → NoneAgain g (imageNext g im c w) (ghostNext g im gh c w)
+  pub noneAgain : g .word < 8 → NoneAgain g (imageNext g im c w) (ghostNext g im gh c w)
   pub noPassing : NoPassing g im c w
 
 -- "an erased range"
