@@ -11,14 +11,14 @@
 #define WORD 4
 #define PAGES 2
 
-/* the shape, as each call takes it */
-#define SHAPE 0, PAGES * PAGE, PAGE, WORD
+/* the range from address 0 on */
+static const slipq_geometry geometry = {0, PAGES * PAGE, PAGE, WORD};
 
 static uint8_t image[PAGES * PAGE];
 static uint8_t buffer[PAGE];
 
 static uint64_t push(const char *slip) {
-    return slipq_push(image, sizeof image, SHAPE, (const uint8_t *)slip, strlen(slip), 0);
+    return slipq_push(image, sizeof image, &geometry, (const uint8_t *)slip, strlen(slip), 0);
 }
 
 static void print_slip(uint32_t length) {
@@ -33,7 +33,7 @@ static void print_list(const uint8_t *from) {
     memcpy(copy, from, sizeof copy);
     printf("waiting:");
     for (;;) {
-        answer = slipq_pop(copy, sizeof copy, SHAPE, buffer, sizeof buffer);
+        answer = slipq_pop(copy, sizeof copy, &geometry, buffer, sizeof buffer);
         if (SLIPQ_ROW(answer) != SLIPQ_DONE)
             break;
         print_slip(SLIPQ_VALUE(answer));
@@ -47,7 +47,7 @@ int main(void) {
     uint64_t answer;
     size_t i;
 
-    if (SLIPQ_ROW(slipq_check(sizeof image, SHAPE)) != SLIPQ_DONE)
+    if (SLIPQ_ROW(slipq_check(sizeof image, &geometry)) != SLIPQ_DONE)
         return 1;
     memset(image, 0xFF, sizeof image);
 
@@ -56,16 +56,16 @@ int main(void) {
         printf("push \"%s\": row %u\n", slips[i], (unsigned)SLIPQ_ROW(answer));
     }
 
-    answer = slipq_peek(image, sizeof image, SHAPE, buffer, sizeof buffer);
+    answer = slipq_peek(image, sizeof image, &geometry, buffer, sizeof buffer);
     printf("peek: row %u,", (unsigned)SLIPQ_ROW(answer));
     print_slip(SLIPQ_VALUE(answer));
-    answer = slipq_pop(image, sizeof image, SHAPE, buffer, sizeof buffer);
+    answer = slipq_pop(image, sizeof image, &geometry, buffer, sizeof buffer);
     printf("\npop: row %u,", (unsigned)SLIPQ_ROW(answer));
     print_slip(SLIPQ_VALUE(answer));
     printf("\n");
     print_list(image);
 
-    answer = slipq_peek(image, sizeof image, SHAPE, buffer, 8);
+    answer = slipq_peek(image, sizeof image, &geometry, buffer, 8);
     printf("peek with a buffer of 8: row %u, %u bytes needed\n", (unsigned)SLIPQ_ROW(answer), (unsigned)SLIPQ_VALUE(answer));
 
     /* the same push, each time with one store more */
@@ -73,7 +73,7 @@ int main(void) {
         uint8_t copy[sizeof image];
 
         memcpy(copy, image, sizeof copy);
-        answer = slipq_push_limited(copy, sizeof copy, SHAPE, (const uint8_t *)late, strlen(late), 0, i);
+        answer = slipq_push_limited(copy, sizeof copy, &geometry, (const uint8_t *)late, strlen(late), 0, i);
         printf("push \"%s\", limit %u: row %u, ", late, (unsigned)i, (unsigned)SLIPQ_ROW(answer));
         print_list(copy);
         if (SLIPQ_ROW(answer) != SLIPQ_CUT)

@@ -4,6 +4,7 @@ use mathlib.Core.Bool.{Bool, not}
 use mathlib.Core.List.{List}
 use Prim.Native.Nat.{ℕ}
 use lib.Dec.{eqb}
+use lib.ListN.{getD}
 use Rattle.paper.specs.declared.Geometry.{Geometry}
 use Rattle.paper.specs.declared.Shape.{Shape}
 use Rattle.paper.specs.Chip.{imageAfter, bufferAfter, Plan}
@@ -13,8 +14,9 @@ use Rattle.codes.specs.Codes.{codeOf}
 
 -- ---- what C passes
 
-abbrev pub shapeOf : ℕ → ℕ → ℕ → ℕ → Shape
-shapeOf start end page word = record { start = start; end = end; page = page; word = word }
+-- a struct of four numbers
+abbrev pub shapeFrom : List ℕ → Shape
+shapeFrom f = record { start = getD f 0 0; end = getD f 1 0; page = getD f 2 0; word = getD f 3 0 }
 
 -- a switch is on unless it is 0
 abbrev pub isOn : ℕ → Bool

@@ -11,7 +11,7 @@ ghost use Rattle.chip.specs.Within.{Within};
 ghost use Rattle.item.specs.Places.{Inside, Room};
 ghost use Rattle.item.specs.Reading.{headAt};
 ghost use Rattle.codes.specs.Codes.{codeOfCheck};
-ghost use Rattle.dock.specs.Promises.{shapeOf, isOn, Answers, AnswersWithin, Shows, ShowsWithin};
+ghost use Rattle.dock.specs.Promises.{shapeFrom, isOn, Answers, AnswersWithin, Shows, ShowsWithin};
 ghost use Rattle.dock.specs.Sights.{stateCode, kind, seen, sight, itemCode};
 use chip::Address;
 use chip::Page;
@@ -21,18 +21,27 @@ use paper::Checked;
 use paper::Geometry;
 use paper::Shape;
 
+// ---- what C passes
+
+// A geometry is a struct of four numbers in C, of which this is the layout: a field more there is a number more here, and no argument more.
+fn shape_of(geometry: &[u32; 4]) -> Shape
+    ensures { λ r. ⌜ r ≡ shapeFrom (now (geometry .entry)) ⌝ }
+{
+    Shape {
+        start: geometry[0],
+        end: geometry[1],
+        page: geometry[2],
+        word: geometry[3],
+    }
+}
+
 // ---- the check
 
 #[no_mangle]
-pub extern "C" fn slipq_check(image_len: usize, start: u32, end: u32, page: u32, word: u32) -> u64
-    ensures { λ r. ⌜ r ≡ codeOfCheck (check «image_len» (shapeOf start end page word)) ⌝ }
+pub extern "C" fn slipq_check(image_len: usize, geometry: &[u32; 4]) -> u64
+    ensures { λ r. ⌜ r ≡ codeOfCheck (check «image_len» (shapeFrom (now (geometry .entry)))) ⌝ }
 {
-    let s = Shape {
-        start,
-        end,
-        page,
-        word,
-    };
+    let s = shape_of(geometry);
     let checked = queue::check_geometry(image_len, s);
     match checked {
         Checked::Accepted(_) => 0,
@@ -46,252 +55,139 @@ pub extern "C" fn slipq_check(image_len: usize, start: u32, end: u32, page: u32,
 #[no_mangle]
 pub extern "C" fn slipq_push(
     image: &mut [u8],
-    start: u32,
-    end: u32,
-    page: u32,
-    word: u32,
+    geometry: &[u32; 4],
     slip: &[u8],
     overwrite: u32,
 ) -> u64
-    ensures { λ r. ⌜ Answers (shapeOf start end page word) (pushes (now (slip .entry)) (isOn overwrite)) (now (image .entry)) (now (image .exit)) r ⌝ }
+    ensures { λ r. ⌜ Answers (shapeFrom (now (geometry .entry))) (pushes (now (slip .entry)) (isOn overwrite)) (now (image .entry)) (now (image .exit)) r ⌝ }
 {
-    let s = Shape {
-        start,
-        end,
-        page,
-        word,
-    };
+    let s = shape_of(geometry);
     codes::pushed_code(queue::push(image, s, slip, overwrite != 0))
 }
 
 #[no_mangle]
 pub extern "C" fn slipq_push_limited(
     image: &mut [u8],
-    start: u32,
-    end: u32,
-    page: u32,
-    word: u32,
+    geometry: &[u32; 4],
     slip: &[u8],
     overwrite: u32,
     limit: usize,
 ) -> u64
-    ensures { λ r. ⌜ AnswersWithin limit (shapeOf start end page word) (pushes (now (slip .entry)) (isOn overwrite)) (now (image .entry)) (now (image .exit)) r ⌝ }
+    ensures { λ r. ⌜ AnswersWithin limit (shapeFrom (now (geometry .entry))) (pushes (now (slip .entry)) (isOn overwrite)) (now (image .entry)) (now (image .exit)) r ⌝ }
 {
-    let s = Shape {
-        start,
-        end,
-        page,
-        word,
-    };
+    let s = shape_of(geometry);
     codes::pushed_code(queue::push_limited(image, s, slip, overwrite != 0, limit))
 }
 
 // ---- peek
 
 #[no_mangle]
-pub extern "C" fn slipq_peek(
-    image: &mut [u8],
-    start: u32,
-    end: u32,
-    page: u32,
-    word: u32,
-    buffer: &mut [u8],
-) -> u64
-    ensures { λ r. ⌜ Shows (shapeOf start end page word) (peeks (now (buffer .entry))) (now (image .entry)) (now (image .exit)) (now (buffer .entry)) (now (buffer .exit)) r ⌝ }
+pub extern "C" fn slipq_peek(image: &mut [u8], geometry: &[u32; 4], buffer: &mut [u8]) -> u64
+    ensures { λ r. ⌜ Shows (shapeFrom (now (geometry .entry))) (peeks (now (buffer .entry))) (now (image .entry)) (now (image .exit)) (now (buffer .entry)) (now (buffer .exit)) r ⌝ }
 {
-    let s = Shape {
-        start,
-        end,
-        page,
-        word,
-    };
+    let s = shape_of(geometry);
     codes::shown_code(queue::peek(image, buffer, s))
 }
 
 #[no_mangle]
 pub extern "C" fn slipq_peek_limited(
     image: &mut [u8],
-    start: u32,
-    end: u32,
-    page: u32,
-    word: u32,
+    geometry: &[u32; 4],
     buffer: &mut [u8],
     limit: usize,
 ) -> u64
-    ensures { λ r. ⌜ ShowsWithin limit (shapeOf start end page word) (peeks (now (buffer .entry))) (now (image .entry)) (now (image .exit)) (now (buffer .entry)) (now (buffer .exit)) r ⌝ }
+    ensures { λ r. ⌜ ShowsWithin limit (shapeFrom (now (geometry .entry))) (peeks (now (buffer .entry))) (now (image .entry)) (now (image .exit)) (now (buffer .entry)) (now (buffer .exit)) r ⌝ }
 {
-    let s = Shape {
-        start,
-        end,
-        page,
-        word,
-    };
+    let s = shape_of(geometry);
     codes::shown_code(queue::peek_limited(image, buffer, s, limit))
 }
 
 // ---- pop
 
 #[no_mangle]
-pub extern "C" fn slipq_pop(
-    image: &mut [u8],
-    start: u32,
-    end: u32,
-    page: u32,
-    word: u32,
-    buffer: &mut [u8],
-) -> u64
-    ensures { λ r. ⌜ Shows (shapeOf start end page word) (pops (now (buffer .entry))) (now (image .entry)) (now (image .exit)) (now (buffer .entry)) (now (buffer .exit)) r ⌝ }
+pub extern "C" fn slipq_pop(image: &mut [u8], geometry: &[u32; 4], buffer: &mut [u8]) -> u64
+    ensures { λ r. ⌜ Shows (shapeFrom (now (geometry .entry))) (pops (now (buffer .entry))) (now (image .entry)) (now (image .exit)) (now (buffer .entry)) (now (buffer .exit)) r ⌝ }
 {
-    let s = Shape {
-        start,
-        end,
-        page,
-        word,
-    };
+    let s = shape_of(geometry);
     codes::shown_code(queue::pop(image, buffer, s))
 }
 
 #[no_mangle]
 pub extern "C" fn slipq_pop_limited(
     image: &mut [u8],
-    start: u32,
-    end: u32,
-    page: u32,
-    word: u32,
+    geometry: &[u32; 4],
     buffer: &mut [u8],
     limit: usize,
 ) -> u64
-    ensures { λ r. ⌜ ShowsWithin limit (shapeOf start end page word) (pops (now (buffer .entry))) (now (image .entry)) (now (image .exit)) (now (buffer .entry)) (now (buffer .exit)) r ⌝ }
+    ensures { λ r. ⌜ ShowsWithin limit (shapeFrom (now (geometry .entry))) (pops (now (buffer .entry))) (now (image .entry)) (now (image .exit)) (now (buffer .entry)) (now (buffer .exit)) r ⌝ }
 {
-    let s = Shape {
-        start,
-        end,
-        page,
-        word,
-    };
+    let s = shape_of(geometry);
     codes::shown_code(queue::pop_limited(image, buffer, s, limit))
 }
 
 // ---- find_max_fit
 
 #[no_mangle]
-pub extern "C" fn slipq_find_max_fit(
-    image: &mut [u8],
-    start: u32,
-    end: u32,
-    page: u32,
-    word: u32,
-) -> u64
-    ensures { λ r. ⌜ Answers (shapeOf start end page word) fits (now (image .entry)) (now (image .exit)) r ⌝ }
+pub extern "C" fn slipq_find_max_fit(image: &mut [u8], geometry: &[u32; 4]) -> u64
+    ensures { λ r. ⌜ Answers (shapeFrom (now (geometry .entry))) fits (now (image .entry)) (now (image .exit)) r ⌝ }
 {
-    let s = Shape {
-        start,
-        end,
-        page,
-        word,
-    };
+    let s = shape_of(geometry);
     codes::fit_code(queue::find_max_fit(image, s))
 }
 
 #[no_mangle]
 pub extern "C" fn slipq_find_max_fit_limited(
     image: &mut [u8],
-    start: u32,
-    end: u32,
-    page: u32,
-    word: u32,
+    geometry: &[u32; 4],
     limit: usize,
 ) -> u64
-    ensures { λ r. ⌜ AnswersWithin limit (shapeOf start end page word) fits (now (image .entry)) (now (image .exit)) r ⌝ }
+    ensures { λ r. ⌜ AnswersWithin limit (shapeFrom (now (geometry .entry))) fits (now (image .entry)) (now (image .exit)) r ⌝ }
 {
-    let s = Shape {
-        start,
-        end,
-        page,
-        word,
-    };
+    let s = shape_of(geometry);
     codes::fit_code(queue::find_max_fit_limited(image, s, limit))
 }
 
 // ---- space_left
 
 #[no_mangle]
-pub extern "C" fn slipq_space_left(
-    image: &mut [u8],
-    start: u32,
-    end: u32,
-    page: u32,
-    word: u32,
-) -> u64
-    ensures { λ r. ⌜ Answers (shapeOf start end page word) spaces (now (image .entry)) (now (image .exit)) r ⌝ }
+pub extern "C" fn slipq_space_left(image: &mut [u8], geometry: &[u32; 4]) -> u64
+    ensures { λ r. ⌜ Answers (shapeFrom (now (geometry .entry))) spaces (now (image .entry)) (now (image .exit)) r ⌝ }
 {
-    let s = Shape {
-        start,
-        end,
-        page,
-        word,
-    };
+    let s = shape_of(geometry);
     codes::space_code(queue::space_left(image, s))
 }
 
 #[no_mangle]
 pub extern "C" fn slipq_space_left_limited(
     image: &mut [u8],
-    start: u32,
-    end: u32,
-    page: u32,
-    word: u32,
+    geometry: &[u32; 4],
     limit: usize,
 ) -> u64
-    ensures { λ r. ⌜ AnswersWithin limit (shapeOf start end page word) spaces (now (image .entry)) (now (image .exit)) r ⌝ }
+    ensures { λ r. ⌜ AnswersWithin limit (shapeFrom (now (geometry .entry))) spaces (now (image .entry)) (now (image .exit)) r ⌝ }
 {
-    let s = Shape {
-        start,
-        end,
-        page,
-        word,
-    };
+    let s = shape_of(geometry);
     codes::space_code(queue::space_left_limited(image, s, limit))
 }
 
 // ---- erase_all
 
 #[no_mangle]
-pub extern "C" fn slipq_erase_all(
-    image: &mut [u8],
-    start: u32,
-    end: u32,
-    page: u32,
-    word: u32,
-) -> u64
-    ensures { λ r. ⌜ Answers (shapeOf start end page word) erasesAll (now (image .entry)) (now (image .exit)) r ⌝ }
+pub extern "C" fn slipq_erase_all(image: &mut [u8], geometry: &[u32; 4]) -> u64
+    ensures { λ r. ⌜ Answers (shapeFrom (now (geometry .entry))) erasesAll (now (image .entry)) (now (image .exit)) r ⌝ }
 {
-    let s = Shape {
-        start,
-        end,
-        page,
-        word,
-    };
+    let s = shape_of(geometry);
     codes::erased_code(queue::erase_all(image, s))
 }
 
 #[no_mangle]
 pub extern "C" fn slipq_erase_all_limited(
     image: &mut [u8],
-    start: u32,
-    end: u32,
-    page: u32,
-    word: u32,
+    geometry: &[u32; 4],
     limit: usize,
 ) -> u64
-    ensures { λ r. ⌜ AnswersWithin limit (shapeOf start end page word) erasesAll (now (image .entry)) (now (image .exit)) r ⌝ }
+    ensures { λ r. ⌜ AnswersWithin limit (shapeFrom (now (geometry .entry))) erasesAll (now (image .entry)) (now (image .exit)) r ⌝ }
 {
-    let s = Shape {
-        start,
-        end,
-        page,
-        word,
-    };
+    let s = shape_of(geometry);
     codes::erased_code(queue::erase_all_limited(image, s, limit))
 }
 
@@ -301,22 +197,10 @@ pub extern "C" fn slipq_erase_all_limited(
 const NOT_THERE: u64 = 255;
 
 #[no_mangle]
-pub extern "C" fn slipq_page_state(
-    image: &[u8],
-    start: u32,
-    end: u32,
-    page: u32,
-    word: u32,
-    p: u32,
-) -> u64
-    ensures { λ r. ⌜ r ≡ stateCode (shapeOf start end page word) (now (image .entry)) p ⌝ }
+pub extern "C" fn slipq_page_state(image: &[u8], geometry: &[u32; 4], p: u32) -> u64
+    ensures { λ r. ⌜ r ≡ stateCode (shapeFrom (now (geometry .entry))) (now (image .entry)) p ⌝ }
 {
-    let s = Shape {
-        start,
-        end,
-        page,
-        word,
-    };
+    let s = shape_of(geometry);
     let checked = chip::check_geometry(image.len(), s);
     match checked {
         Checked::Refused(refusal) => codes::refusal_code(refusal),
@@ -331,23 +215,10 @@ pub extern "C" fn slipq_page_state(
 }
 
 #[no_mangle]
-pub extern "C" fn slipq_item(
-    image: &[u8],
-    start: u32,
-    end: u32,
-    page: u32,
-    word: u32,
-    p: u32,
-    address: u32,
-) -> u64
-    ensures { λ r. ⌜ r ≡ itemCode (shapeOf start end page word) (now (image .entry)) p address ⌝ }
+pub extern "C" fn slipq_item(image: &[u8], geometry: &[u32; 4], p: u32, address: u32) -> u64
+    ensures { λ r. ⌜ r ≡ itemCode (shapeFrom (now (geometry .entry))) (now (image .entry)) p address ⌝ }
 {
-    let s = Shape {
-        start,
-        end,
-        page,
-        word,
-    };
+    let s = shape_of(geometry);
     let checked = chip::check_geometry(image.len(), s);
     match checked {
         Checked::Refused(refusal) => codes::refusal_code(refusal),

@@ -28,7 +28,7 @@
 //! A store is one word that is ANDed into the image, or one page that is set to FF. Each call has a second form with a limit: it makes
 //! the first `limit` stores of the call, and answers [`Error::Cut`] exactly when there are more. That is what a power cut leaves.
 #![no_std]
-#![warn(missing_docs)]
+#![warn(missing_docs, clippy::missing_errors_doc)]
 
 mod error;
 mod face;
@@ -38,6 +38,11 @@ pub use error::{Error, ShapeError};
 pub use look::{Item, ItemState, Items, PageState};
 
 use face::Answer;
+
+/// The readme's examples are tests too.
+#[cfg(doctest)]
+#[doc = include_str!("../README.md")]
+struct ReadMe;
 
 /// The range of the image that the queue lives in, its page size and its word size, all in bytes.
 #[derive(Clone, Copy, Debug, PartialEq, Eq)]
@@ -54,7 +59,14 @@ pub struct Shape {
 
 impl Shape {
     /// A range of so many pages from address 0 on. An end past 32 bits becomes the largest number, which the check refuses.
-    pub fn of(pages: u32, page: u32, word: u32) -> Shape {
+    ///
+    /// ```
+    /// use slipq::Shape;
+    ///
+    /// const SHAPE: Shape = Shape::of(4, 256, 4);
+    /// assert_eq!(SHAPE, Shape { start: 0, end: 1024, page: 256, word: 4 });
+    /// ```
+    pub const fn of(pages: u32, page: u32, word: u32) -> Shape {
         Shape {
             start: 0,
             end: pages.saturating_mul(page),
@@ -72,6 +84,9 @@ impl Shape {
     /// assert_eq!(Shape::of(1, 16, 4).check(16), Err(ShapeError::PagesTooSmall));
     /// assert_eq!(Shape::of(1, 20, 4).check(19), Err(ShapeError::OutsideImage));
     /// ```
+    ///
+    /// # Errors
+    /// The first reason, in the order of [`ShapeError`], for which it cannot.
     pub fn check(self, image_len: usize) -> Result<(), ShapeError> {
         match face::check(image_len, self.numbers()).row {
             0 => Ok(()),
@@ -111,6 +126,9 @@ impl<'a> Queue<'a> {
     /// assert!(Queue::new(&mut image, shape).is_ok());
     /// assert_eq!(Queue::new(&mut image, Shape { word: 5, ..shape }).err(), Some(ShapeError::BadGeometry));
     /// ```
+    ///
+    /// # Errors
+    /// As [`Shape::check`] refuses the shape for this image.
     pub fn new(image: &'a mut [u8], shape: Shape) -> Result<Queue<'a>, ShapeError> {
         shape.check(image.len())?;
         Ok(Queue { image, shape })
@@ -123,6 +141,23 @@ impl<'a> Queue<'a> {
 
     /// The whole image, with what lies outside the range.
     pub fn image(&self) -> &[u8] {
+        self.image
+    }
+
+    /// Gives the lent image back, for as long as it was lent.
+    ///
+    /// ```
+    /// use slipq::{Queue, Shape};
+    ///
+    /// fn with_a_slip(image: &mut [u8]) -> Result<&mut [u8], Box<dyn std::error::Error>> {
+    ///     let mut queue = Queue::new(image, Shape::of(1, 32, 4))?;
+    ///     queue.push(b"Anton", false)?;
+    ///     Ok(queue.into_image())
+    /// }
+    /// assert_eq!(with_a_slip(&mut [0xff; 32])?[12..17], *b"Anton");
+    /// # Ok::<(), Box<dyn std::error::Error>>(())
+    /// ```
+    pub fn into_image(self) -> &'a mut [u8] {
         self.image
     }
 
@@ -139,11 +174,17 @@ impl<'a> Queue<'a> {
     /// assert_eq!(queue.push(b"", true), Ok(()));
     /// # Ok::<(), slipq::ShapeError>(())
     /// ```
+    ///
+    /// # Errors
+    /// [`Error::ItemTooBig`]; [`Error::FullStorage`], never with `overwrite`; [`Error::Corrupted`].
     pub fn push(&mut self, slip: &[u8], overwrite: bool) -> Result<(), Error> {
         self.push_within(slip, overwrite, None)
     }
 
     /// [`push`](Queue::push) with a store limit.
+    ///
+    /// # Errors
+    /// Those of [`push`](Queue::push), and [`Error::Cut`] where the call has more stores than `limit`.
     pub fn push_limited(
         &mut self,
         slip: &[u8],
@@ -185,12 +226,18 @@ impl<'a> Queue<'a> {
     /// assert_eq!(queue.peek(&mut [0; 8])?.as_deref(), Some(&b"Anton"[..]));
     /// # Ok::<(), Box<dyn std::error::Error>>(())
     /// ```
+    ///
+    /// # Errors
+    /// [`Error::BufferTooSmall`], with the size needed; [`Error::Corrupted`].
     pub fn peek<'b>(&mut self, buffer: &'b mut [u8]) -> Result<Option<&'b mut [u8]>, Error> {
         let answer = face::peek(self.image, self.shape.numbers(), buffer, None);
         shown(answer, buffer)
     }
 
     /// [`peek`](Queue::peek) with a store limit.
+    ///
+    /// # Errors
+    /// Those of [`peek`](Queue::peek), and [`Error::Cut`] where the call has more stores than `limit`.
     pub fn peek_limited<'b>(
         &mut self,
         buffer: &'b mut [u8],
@@ -201,12 +248,18 @@ impl<'a> Queue<'a> {
     }
 
     /// Shows the oldest slip as [`peek`](Queue::peek) does, and takes it from the queue. A refused pop takes nothing.
+    ///
+    /// # Errors
+    /// Those of [`peek`](Queue::peek).
     pub fn pop<'b>(&mut self, buffer: &'b mut [u8]) -> Result<Option<&'b mut [u8]>, Error> {
         let answer = face::pop(self.image, self.shape.numbers(), buffer, None);
         shown(answer, buffer)
     }
 
     /// [`pop`](Queue::pop) with a store limit.
+    ///
+    /// # Errors
+    /// Those of [`pop`](Queue::pop), and [`Error::Cut`] where the call has more stores than `limit`.
     pub fn pop_limited<'b>(
         &mut self,
         buffer: &'b mut [u8],
@@ -218,11 +271,17 @@ impl<'a> Queue<'a> {
 
     /// The bytes that the current page's rest, or a fresh page, has for the next slip; `None` when nothing fits. It is the crate's number:
     /// a fresh page counts with its header. Repairs may change the image.
+    ///
+    /// # Errors
+    /// [`Error::Corrupted`].
     pub fn find_max_fit(&mut self) -> Result<Option<u32>, Error> {
         fit(face::find_max_fit(self.image, self.shape.numbers(), None))
     }
 
     /// [`find_max_fit`](Queue::find_max_fit) with a store limit.
+    ///
+    /// # Errors
+    /// Those of [`find_max_fit`](Queue::find_max_fit), and [`Error::Cut`] where the call has more stores than `limit`.
     pub fn find_max_fit_limited(&mut self, limit: usize) -> Result<Option<u32>, Error> {
         fit(face::find_max_fit(
             self.image,
@@ -243,11 +302,17 @@ impl<'a> Queue<'a> {
     /// assert_eq!(queue.space_left(), Ok(16));
     /// # Ok::<(), Box<dyn std::error::Error>>(())
     /// ```
+    ///
+    /// # Errors
+    /// [`Error::Corrupted`].
     pub fn space_left(&mut self) -> Result<u32, Error> {
         made(face::space_left(self.image, self.shape.numbers(), None))
     }
 
     /// [`space_left`](Queue::space_left) with a store limit.
+    ///
+    /// # Errors
+    /// Those of [`space_left`](Queue::space_left), and [`Error::Cut`] where the call has more stores than `limit`.
     pub fn space_left_limited(&mut self, limit: usize) -> Result<u32, Error> {
         made(face::space_left(
             self.image,
@@ -257,11 +322,17 @@ impl<'a> Queue<'a> {
     }
 
     /// Sets every page of the range to FF, in page order; no slip waits then.
+    ///
+    /// # Errors
+    /// None comes: an image in memory takes every store, and the shape was checked.
     pub fn erase_all(&mut self) -> Result<(), Error> {
         made(face::erase_all(self.image, self.shape.numbers(), None)).map(|_| ())
     }
 
     /// [`erase_all`](Queue::erase_all) with a store limit.
+    ///
+    /// # Errors
+    /// [`Error::Cut`] where the call has more stores than `limit`.
     pub fn erase_all_limited(&mut self, limit: usize) -> Result<(), Error> {
         made(face::erase_all(
             self.image,

@@ -3,6 +3,9 @@ use borrow.Author.Needs.{needs}
 use Rattle.dock.proofs.slipq_check.Statement.{statement}
 use Rattle.dock.proofs.slipq_check.Tie as tie
 
+shape-of-requires : tie.Need-shape-of-requires
+shape-of-requires c κs = search needs
+
 check-geometry-requires : tie.Need-check-geometry-requires
 check-geometry-requires c κs = search needs
 
@@ -16,17 +19,21 @@ refusal-code-requires : tie.Need-refusal-code-requires
 refusal-code-requires c κs = search needs
 
 returns : tie.Need-returns
-returns c = rw (← c .before .before .check-geometry .ensures, c .enum-told .given .1)
+returns c =
+    let shape-of = c .before .before .before .shape-of in
+    rw (← shape-of .ensures, ← c .before .before .check-geometry .ensures, c .enum-told .given .1)
 
 returns-2 : tie.Need-returns-2
 returns-2 c =
+    let shape-of = c .before .before .before .before .before .shape-of in
     let check-geometry = c .before .before .before .before .check-geometry in
-    rw (← check-geometry .ensures, c .before .before .checked .given .1) (c .refusal-code .ensures)
+    rw (← shape-of .ensures, ← check-geometry .ensures, c .before .before .checked .given .1) (c .refusal-code .ensures)
 
 pub slipq-check-spec : {M : Type 1} → statement M
 slipq-check-spec =
     tie.close
     (tie.spec
+    shape-of-requires
     check-geometry-requires
     enum-told
     enum-known-checked

@@ -6,6 +6,9 @@ use Rattle.dock.proofs.Sights.{page-refused, page-missing, page-there}
 use Rattle.dock.proofs.slipq_item.Statement.{statement}
 use Rattle.dock.proofs.slipq_item.Tie as tie
 
+shape-of-requires : tie.Need-shape-of-requires
+shape-of-requires c κs = search needs
+
 check-geometry-requires : tie.Need-check-geometry-requires
 check-geometry-requires c κs = search needs
 
@@ -21,10 +24,11 @@ enum-known-checked-2 c = search needs
 returns : tie.Need-returns
 unfolding itemCode
 returns c =
-    let args = c .before .before .before .before .before .before .before .args in
+    let args = c .before .before .before .before .before .before .before .before .args in
+    let shape-of = c .before .before .before .before .before .before .shape-of in
     let check-geometry = c .before .before .before .before .before .check-geometry in
     let checked2 = c .before .before .before .checked2 in
-    page-missing _ _ (args .p) (check-geometry .ensures) _ _ (checked2 .given .1) (c .if1 .taken) refl
+    rw (← shape-of .ensures) (page-missing _ _ (args .p) (check-geometry .ensures) _ _ (checked2 .given .1) (c .if1 .taken) refl)
 
 item-on-page-requires : tie.Need-item-on-page-requires
 item-on-page-requires c κs =
@@ -35,23 +39,27 @@ item-on-page-requires c κs =
 returns-2 : tie.Need-returns-2
 unfolding itemCode
 returns-2 c =
-    let args = c .before .before .before .before .before .before .args in
+    let args = c .before .before .before .before .before .before .before .args in
+    let shape-of = c .before .before .before .before .before .shape-of in
     let check-geometry = c .before .before .before .before .check-geometry in
-    page-refused _ _ (args .p) (check-geometry .ensures) _ _ (c .before .before .checked .given .1) (c .refusal-code .ensures)
+    rw (← shape-of .ensures) (page-refused _ _ (args .p) (check-geometry .ensures) _ _ (c .before .before .checked .given .1) (c .refusal-code .ensures))
 
 returns-3 : tie.Need-returns-3
 unfolding itemCode
 returns-3 c =
-    let args = c .before .before .before .before .before .before .before .before .args in
+    let args = c .before .before .before .before .before .before .before .before .before .args in
+    let shape-of = c .before .before .before .before .before .before .before .shape-of in
     let check-geometry = c .before .before .before .before .before .before .check-geometry in
     let checked2 = c .before .before .before .before .checked2 in
-    page-there _ _ (args .p) (check-geometry .ensures) (λ g. sight g (args .image .now) (args .p) (args .address)) _ (checked2 .given .1)
-    (c .before .if1 .left) (c .item-on-page .ensures)
+    rw (← shape-of .ensures) (page-there _ _ (args .p) (check-geometry .ensures)
+    (λ g. sight g (args .image .now) (args .p) (args .address)) _ (checked2 .given .1)
+    (c .before .if1 .left) (c .item-on-page .ensures))
 
 pub slipq-item-spec : {M : Type 1} → statement M
 slipq-item-spec =
     tie.close
     (tie.spec
+    shape-of-requires
     check-geometry-requires
     enum-known-checked
     refusal-code-requires

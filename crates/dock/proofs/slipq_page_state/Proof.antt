@@ -10,6 +10,9 @@ use Rattle.dock.proofs.Calls.{coded}
 use Rattle.dock.proofs.slipq_page_state.Statement.{statement}
 use Rattle.dock.proofs.slipq_page_state.Tie as tie
 
+shape-of-requires : tie.Need-shape-of-requires
+shape-of-requires c κs = search needs
+
 check-geometry-requires : tie.Need-check-geometry-requires
 check-geometry-requires c κs = search needs
 
@@ -25,10 +28,11 @@ enum-known-checked-2 c = search needs
 returns : tie.Need-returns
 unfolding stateCode
 returns c =
-    let args = c .before .before .before .before .before .before .before .args in
+    let args = c .before .before .before .before .before .before .before .before .args in
+    let shape-of = c .before .before .before .before .before .before .shape-of in
     let check-geometry = c .before .before .before .before .before .check-geometry in
     let checked2 = c .before .before .before .checked2 in
-    page-missing _ _ (args .p) (check-geometry .ensures) _ _ (checked2 .given .1) (c .if1 .taken) refl
+    rw (← shape-of .ensures) (page-missing _ _ (args .p) (check-geometry .ensures) _ _ (checked2 .given .1) (c .if1 .taken) refl)
 
 get-page-state-requires : tie.Need-get-page-state-requires
 get-page-state-requires c κs =
@@ -48,25 +52,29 @@ coded-requires c κs = search needs
 returns-2 : tie.Need-returns-2
 unfolding stateCode
 returns-2 c =
-    let args = c .before .before .before .before .before .before .args in
+    let args = c .before .before .before .before .before .before .before .args in
+    let shape-of = c .before .before .before .before .before .shape-of in
     let check-geometry = c .before .before .before .before .check-geometry in
-    page-refused _ _ (args .p) (check-geometry .ensures) _ _ (c .before .before .checked .given .1) (c .refusal-code .ensures)
+    rw (← shape-of .ensures) (page-refused _ _ (args .p) (check-geometry .ensures) _ _ (c .before .before .checked .given .1) (c .refusal-code .ensures))
 
 returns-3 : tie.Need-returns-3
 unfolding stateCode
 returns-3 c =
-    let args = c .before .before .before .before .before .before .before .before .before .before .args in
+    let args = c .before .before .before .before .before .before .before .before .before .before .before .args in
+    let shape-of = c .before .before .before .before .before .before .before .before .before .shape-of in
     let check-geometry = c .before .before .before .before .before .before .before .before .check-geometry in
     let checked2 = c .before .before .before .before .before .before .checked2 in
     let if1 = c .before .before .before .if1 in
-    page-there _ _ (args .p) (check-geometry .ensures) (λ g. code 0 (rank (state g (args .image .now) (args .p)))) _ (checked2 .given .1)
+    rw (← shape-of .ensures) (page-there _ _ (args .p) (check-geometry .ensures)
+    (λ g. code 0 (rank (state g (args .image .now) (args .p)))) _ (checked2 .given .1)
     (if1 .left) (c .coded .ensures
-    ∙ ap (code 0) (c .before .rank .ensures ∙ ap (λ (x : PageState). rank x) (c .before .before .get-page-state .ensures)))
+    ∙ ap (code 0) (c .before .rank .ensures ∙ ap (λ (x : PageState). rank x) (c .before .before .get-page-state .ensures))))
 
 pub slipq-page-state-spec : {M : Type 1} → statement M
 slipq-page-state-spec =
     tie.close
     (tie.spec
+    shape-of-requires
     check-geometry-requires
     enum-known-checked
     refusal-code-requires

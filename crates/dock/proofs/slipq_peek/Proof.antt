@@ -4,6 +4,9 @@ use Rattle.dock.proofs.Calls.{coded-shown}
 use Rattle.dock.proofs.slipq_peek.Statement.{statement}
 use Rattle.dock.proofs.slipq_peek.Tie as tie
 
+shape-of-requires : tie.Need-shape-of-requires
+shape-of-requires c κs = search needs
+
 peek-requires : tie.Need-peek-requires
 peek-requires c κs = search needs
 
@@ -18,13 +21,15 @@ same-length-2 c = search needs
 
 returns : tie.Need-returns
 returns c =
+    let shape-of = c .before .before .before .before .before .before .before .before .shape-of in
     let peek = c .before .before .before .before .before .peek in
-    coded-shown (peek .ensures) (c .shown-code .ensures)
+    rw (← shape-of .ensures) (coded-shown (peek .ensures) (c .shown-code .ensures))
 
 pub slipq-peek-spec : {M : Type 1} → statement M
 slipq-peek-spec =
     tie.close
     (tie.spec
+    shape-of-requires
     peek-requires
     shown-code-requires
     same-length

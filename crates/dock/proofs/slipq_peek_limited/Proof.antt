@@ -4,6 +4,9 @@ use Rattle.dock.proofs.Calls.{coded-shown}
 use Rattle.dock.proofs.slipq_peek_limited.Statement.{statement}
 use Rattle.dock.proofs.slipq_peek_limited.Tie as tie
 
+shape-of-requires : tie.Need-shape-of-requires
+shape-of-requires c κs = search needs
+
 peek-limited-requires : tie.Need-peek-limited-requires
 peek-limited-requires c κs = search needs
 
@@ -18,13 +21,15 @@ same-length-2 c = search needs
 
 returns : tie.Need-returns
 returns c =
+    let shape-of = c .before .before .before .before .before .before .before .before .shape-of in
     let peek-limited = c .before .before .before .before .before .peek-limited in
-    coded-shown (peek-limited .ensures) (c .shown-code .ensures)
+    rw (← shape-of .ensures) (coded-shown (peek-limited .ensures) (c .shown-code .ensures))
 
 pub slipq-peek-limited-spec : {M : Type 1} → statement M
 slipq-peek-limited-spec =
     tie.close
     (tie.spec
+    shape-of-requires
     peek-limited-requires
     shown-code-requires
     same-length

@@ -4,6 +4,9 @@ use Rattle.dock.proofs.Calls.{coded-shown}
 use Rattle.dock.proofs.slipq_pop.Statement.{statement}
 use Rattle.dock.proofs.slipq_pop.Tie as tie
 
+shape-of-requires : tie.Need-shape-of-requires
+shape-of-requires c κs = search needs
+
 pop-requires : tie.Need-pop-requires
 pop-requires c κs = search needs
 
@@ -18,13 +21,15 @@ same-length-2 c = search needs
 
 returns : tie.Need-returns
 returns c =
+    let shape-of = c .before .before .before .before .before .before .before .before .shape-of in
     let pop = c .before .before .before .before .before .pop in
-    coded-shown (pop .ensures) (c .shown-code .ensures)
+    rw (← shape-of .ensures) (coded-shown (pop .ensures) (c .shown-code .ensures))
 
 pub slipq-pop-spec : {M : Type 1} → statement M
 slipq-pop-spec =
     tie.close
     (tie.spec
+    shape-of-requires
     pop-requires
     shown-code-requires
     same-length

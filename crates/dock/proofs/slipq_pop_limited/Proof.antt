@@ -4,6 +4,9 @@ use Rattle.dock.proofs.Calls.{coded-shown}
 use Rattle.dock.proofs.slipq_pop_limited.Statement.{statement}
 use Rattle.dock.proofs.slipq_pop_limited.Tie as tie
 
+shape-of-requires : tie.Need-shape-of-requires
+shape-of-requires c κs = search needs
+
 pop-limited-requires : tie.Need-pop-limited-requires
 pop-limited-requires c κs = search needs
 
@@ -18,13 +21,15 @@ same-length-2 c = search needs
 
 returns : tie.Need-returns
 returns c =
+    let shape-of = c .before .before .before .before .before .before .before .before .shape-of in
     let pop-limited = c .before .before .before .before .before .pop-limited in
-    coded-shown (pop-limited .ensures) (c .shown-code .ensures)
+    rw (← shape-of .ensures) (coded-shown (pop-limited .ensures) (c .shown-code .ensures))
 
 pub slipq-pop-limited-spec : {M : Type 1} → statement M
 slipq-pop-limited-spec =
     tie.close
     (tie.spec
+    shape-of-requires
     pop-limited-requires
     shown-code-requires
     same-length
