@@ -20,7 +20,7 @@ use Rattle.paper.specs.Refusals.{Rule, rules, judge, check, allowedWord, geomet
 use Rattle.paper.specs.Calls.{planned, call, planOf, requested}
 use Rattle.demand1.specs.Shapes.{Iff, rowNumber, Broken, OfShape}
 use Rattle.demand1.proofs.Lists.{never}
-use Rattle.demand1.proofs.Tells.{Tells, yes, no, tells-eq, tells-lt, tells-or, tells-not, tells-same}
+use Rattle.demand1.proofs.Tests.{Tells, yes, no, tells-eq, tells-lt, tells-or, tells-not, tells-same}
 
 -- ---- numbers of rows
 

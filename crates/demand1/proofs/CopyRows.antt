@@ -16,7 +16,7 @@ use Rattle.laws.proofs.Accepted.{Laid}
 use Rattle.demand1.specs.Range.{Each}
 use Rattle.demand1.specs.Buffers.{copiesIn, copiesOf, OfCopies}
 use Rattle.demand1.specs.Rows.{Passed, TooLong, Seen, Way}
-use Rattle.demand1.proofs.Does.{writes-store, repair-does}
+use Rattle.demand1.proofs.EachEvent.{writes-store, repair-does}
 use Rattle.demand1.proofs.HeadCopies.{copies-join, Kept, copies-none, readOf, copies-append, front-read, long-read, met-read}
 use Rattle.demand1.proofs.SearchRows.{search-copies, of-peek, of-pop}
 

@@ -17,9 +17,9 @@ use Rattle.demand1.specs.Range.{Lies, Each}
 use Rattle.demand1.proofs.Lists.{each-append}
 use Rattle.demand1.proofs.Pages.{all-in}
 use Rattle.demand1.proofs.Lying.{Alike}
-use Rattle.demand1.proofs.Does.{Tried, Any}
+use Rattle.demand1.proofs.EachEvent.{Tried, Any}
 use Rattle.demand1.proofs.Searches.{youngest-in}
-use Rattle.demand1.proofs.Both.{Both, both-bind, both-steps, states, walks, youngest-same}
+use Rattle.demand1.proofs.AlikePlans.{Both, both-bind, both-steps, states, walks, youngest-same}
 
 module _ {g : Geometry} {n : ℕ} (S : Laid g n) where
   both-counted : (count : List ℕ → Try Unit Answer) → ((im jm : List ℕ) → Alike g n im jm → count im ≡ count jm)

@@ -13,7 +13,7 @@ use Rattle.paper.specs.Calls.{Met, passed, long, met, readHeads}
 use Rattle.demand1.specs.Range.{Each}
 use Rattle.demand1.specs.Buffers.{copiesIn, copiesOf}
 use Rattle.demand1.specs.Rows.{Passed}
-use Rattle.demand1.proofs.Meets.{meetBy, meet, present-live}
+use Rattle.demand1.proofs.ReadingHeads.{meetBy, meet, present-live}
 
 -- ---- copies among events
 

@@ -18,8 +18,8 @@ use Rattle.laws.proofs.Accepted.{Laid, accepted-is, accepted-from}
 use Rattle.demand1.specs.Range.{Lies, Each, Outside, Agree, afterLimit, bufferLimit, InRange}
 use Rattle.demand1.proofs.Lists.{each-before}
 use Rattle.demand1.proofs.Lying.{Alike, range-end, alike-after, alike-self, frame-after, alike-buffer}
-use Rattle.demand1.proofs.Does.{Any}
-use Rattle.demand1.proofs.Both.{Both}
+use Rattle.demand1.proofs.EachEvent.{Any}
+use Rattle.demand1.proofs.AlikePlans.{Both}
 use Rattle.demand1.proofs.PushLies.{both-push}
 use Rattle.demand1.proofs.SearchLies.{both-peek, both-pop}
 use Rattle.demand1.proofs.CountLies.{both-fit, both-space, both-erase}

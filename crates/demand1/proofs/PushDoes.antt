@@ -17,7 +17,7 @@ use Rattle.paper.specs.Calls.{Spot, full, at, tooBig, takePage, turnPage, findS
 use Rattle.laws.proofs.ErasePage.{erase-each}
 use Rattle.demand1.specs.Range.{Each}
 use Rattle.demand1.proofs.Lists.{each-append}
-use Rattle.demand1.proofs.Does.{Tried, Any, writes-store, Does, does-cond, does-bind, does-steps}
+use Rattle.demand1.proofs.EachEvent.{Tried, Any, writes-store, Does, does-cond, does-bind, does-steps}
 
 -- what holds of every store and every erase holds of all that a push does
 module _ {P : Event → Type 0} (stores : (a : ℕ) (word : List ℕ) → P (store a word)) (erases : (p : ℕ) → P (erase p)) (g : Geometry) (over : Bool) where

@@ -25,9 +25,9 @@ use Rattle.demand1.proofs.Pages.{layout}
 use Rattle.laws.proofs.Headers.{header-behind}
 use Rattle.demand1.proofs.Walks.{Room, spot-room, page-room}
 use Rattle.demand1.proofs.Lying.{Alike}
-use Rattle.demand1.proofs.Does.{Tried, Any}
+use Rattle.demand1.proofs.EachEvent.{Tried, Any}
 use Rattle.demand1.proofs.Searches.{youngest-in}
-use Rattle.demand1.proofs.Both.{Both, both-cond, both-bind, both-then, both-steps, states, walks, youngest-same}
+use Rattle.demand1.proofs.AlikePlans.{Both, both-cond, both-bind, both-then, both-steps, states, walks, youngest-same}
 use Rattle.demand1.proofs.Writes.{start-lies, end-lies, item-lies}
 
 -- a spot has room for an item of m bytes

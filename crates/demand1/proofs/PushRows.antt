@@ -16,7 +16,7 @@ use Rattle.paper.specs.Fifo.{Full}
 use Rattle.laws.proofs.Accepted.{Laid}
 use Rattle.demand1.specs.Rows.{repaired, Fails, failed, OnlyMark, OnStep, TooBig, OfPush}
 use Rattle.demand1.proofs.Lists.{never}
-use Rattle.demand1.proofs.Tells.{Tells, tells-lt, tells-or, tells-same, told-yes, told-no}
+use Rattle.demand1.proofs.Tests.{Tells, tells-lt, tells-or, tells-same, told-yes, told-no}
 use Rattle.demand1.proofs.Repairs.{repaired-long}
 use Rattle.demand1.proofs.Steps.{is-fails, fails-not, steps-gives, steps-again}
 use Rattle.demand1.proofs.PushSteps.{FullStep, step-quiet, step-full, full-step}

@@ -19,10 +19,10 @@ use Rattle.laws.proofs.Sides.{Apart, is, differs, apart}
 use Rattle.demand1.specs.Rows.{MarkOf}
 use Rattle.demand1.proofs.Lists.{never}
 use Rattle.demand1.proofs.Pages.{state-same, walk-same}
-use Rattle.demand1.proofs.Does.{Tried, Any}
+use Rattle.demand1.proofs.EachEvent.{Tried, Any}
 use Rattle.demand1.proofs.Searches.{youngest-in}
 use Rattle.demand1.proofs.Frames.{mark-other, mark-walk, mark-partial}
-use Rattle.demand1.proofs.Found.{Young, partly, opens, young}
+use Rattle.demand1.proofs.PageStates.{Young, partly, opens, young}
 use Rattle.demand1.proofs.Turning.{NoRoom, find-full, find-fails, find-no-room}
 
 -- the step of a push of m bytes on the image im

@@ -18,7 +18,7 @@ use Rattle.demand1.specs.Range.{Each}
 use Rattle.demand1.specs.Buffers.{Copies, ReadOf}
 use Rattle.demand1.proofs.Lists.{each-weaker, each-any, never}
 use Rattle.demand1.proofs.Items.{Whole, walk-on-whole}
-use Rattle.demand1.proofs.Does.{Tried, Any, left-does, writes-store, Does, does-cond, does-bind, does-steps}
+use Rattle.demand1.proofs.EachEvent.{Tried, Any, left-does, writes-store, Does, does-cond, does-bind, does-steps}
 
 -- a header that was met is one of those read, live, and the buffer takes it
 abbrev MetOf : Geometry → ℕ → (Head → Type 0) → Met → Type 0

@@ -17,9 +17,9 @@ use Rattle.demand1.specs.Range.{Lies, Each}
 use Rattle.demand1.proofs.Pages.{InData, start-in, walk-on-same}
 use Rattle.demand1.proofs.Walks.{Placed, heads-placed}
 use Rattle.demand1.proofs.Lying.{Alike, alike-page}
-use Rattle.demand1.proofs.Does.{Tried, Any, left-does}
+use Rattle.demand1.proofs.EachEvent.{Tried, Any, left-does}
 use Rattle.demand1.proofs.Searches.{oldest-in}
-use Rattle.demand1.proofs.Both.{Both, both-cond, both-bind, both-then, both-steps, states, oldest-same}
+use Rattle.demand1.proofs.AlikePlans.{Both, both-cond, both-bind, both-then, both-steps, states, oldest-same}
 use Rattle.demand1.proofs.Writes.{header-lies}
 
 abbrev MetPlaced : Geometry → Met → Type 0

@@ -20,12 +20,12 @@ use Rattle.demand1.specs.Buffers.{copiesIn}
 use Rattle.demand1.specs.Rows.{repaired, Fails, onTheWay, Passed, TooLong, Seen, Way, direct, mended, Finished, OfSearch}
 use Rattle.demand1.proofs.Lists.{each-append, each-weaker, never}
 use Rattle.demand1.proofs.Pages.{state-same, walk-same}
-use Rattle.demand1.proofs.Does.{Tried, Any, repair-does}
+use Rattle.demand1.proofs.EachEvent.{Tried, Any, repair-does}
 use Rattle.demand1.proofs.Searches.{oldest-in}
 use Rattle.demand1.proofs.Repairs.{Mended, opened, kept, repaired-long}
 use Rattle.demand1.proofs.Repairs as repairs
 use Rattle.demand1.proofs.Steps.{is-fails, fails-not, steps-gives, steps-again}
-use Rattle.demand1.proofs.Meets.{meet, seen}
+use Rattle.demand1.proofs.ReadingHeads.{meet, seen}
 use Rattle.demand1.proofs.HeadCopies.{copies-join, Kept, copies-none, readOf}
 use Rattle.demand1.proofs.Ways.{outcome, Clears}
 use Rattle.demand1.proofs.Searching.{Went, search-went}

@@ -8,7 +8,7 @@ use Rattle.paper.specs.declared.PageState.the-variants.{Open, PartialOpen, Clos
 use Rattle.paper.specs.Chip.{Try, fails, gives, onGiven}
 use Rattle.paper.specs.Pages.{same, state, Found, failed, found, missing, first, foundOr, openFrom, from, allPages, youngest, oldest, repair}
 use Rattle.demand1.specs.Range.{Lies, Each}
-use Rattle.demand1.proofs.Does.{Tried, Any, repair-does}
+use Rattle.demand1.proofs.EachEvent.{Tried, Any, repair-does}
 use Rattle.demand1.proofs.Pages.{from-in, all-in}
 
 abbrev pub FoundIn : Geometry → Found → Type 0

@@ -20,11 +20,11 @@ use Rattle.demand1.specs.Buffers.{copiesIn}
 use Rattle.demand1.specs.Rows.{repaired, onTheWay}
 use Rattle.demand1.proofs.Lists.{each-append, never}
 use Rattle.demand1.proofs.Pages.{state-same}
-use Rattle.demand1.proofs.Does.{repair-does}
-use Rattle.demand1.proofs.Meets.{meet}
+use Rattle.demand1.proofs.EachEvent.{repair-does}
+use Rattle.demand1.proofs.ReadingHeads.{meet}
 use Rattle.demand1.proofs.HeadCopies.{copies-join, Kept, copies-none, readOf}
 use Rattle.demand1.proofs.Repairs.{Mended, opened, kept, mended}
-use Rattle.demand1.proofs.Found.{old-sound}
+use Rattle.demand1.proofs.PageStates.{old-sound}
 use Rattle.demand1.proofs.Steps.{steps-gives, steps-fails}
 use Rattle.demand1.proofs.Ways.{outcome, Clears, Known, Ahead, Came, ends, stuck, Comes, ways}
 

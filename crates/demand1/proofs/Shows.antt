@@ -19,7 +19,7 @@ use Rattle.demand1.specs.Range.{Each}
 use Rattle.demand1.specs.Buffers.{Copies}
 use Rattle.demand1.proofs.Lists.{each-append, never}
 use Rattle.demand1.proofs.Items.{Whole, walk-on-whole}
-use Rattle.demand1.proofs.Does.{writes-store}
+use Rattle.demand1.proofs.EachEvent.{writes-store}
 use Rattle.demand1.proofs.Tails.{tail-stays}
 
 -- ---- the last copy

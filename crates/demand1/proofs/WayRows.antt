@@ -13,7 +13,7 @@ use Rattle.demand1.specs.Range.{Each}
 use Rattle.demand1.specs.Shapes.{Iff}
 use Rattle.demand1.specs.Rows.{Passed, Stops, TooLong, Seen}
 use Rattle.demand1.proofs.Lists.{never}
-use Rattle.demand1.proofs.Meets.{meet, passed-all, meet-long, meet-met, Meets, all, tooLong, seen, meet-is}
+use Rattle.demand1.proofs.ReadingHeads.{meet, passed-all, meet-long, meet-met, Meets, all, tooLong, seen, meet-is}
 use Rattle.demand1.proofs.Ways.{outcome}
 
 -- b is the buffer's size

@@ -25,9 +25,9 @@ use Rattle.demand1.specs.Buffers.{copiesIn}
 use Rattle.demand1.specs.Rows.{onTheWay}
 use Rattle.demand1.proofs.Lists.{each-append, each-weaker, never}
 use Rattle.demand1.proofs.Pages.{InData, inner, start-in, state-same, walk-on-same}
-use Rattle.demand1.proofs.Does.{left-does}
+use Rattle.demand1.proofs.EachEvent.{left-does}
 use Rattle.demand1.proofs.Frames.{erase-long, erase-other, erase-open}
-use Rattle.demand1.proofs.Meets.{Copied, copied-image, heads-copied, meet, meets, thenMeet, meet-append, passed-payloads, Meets, all, tooLong, seen, meet-is}
+use Rattle.demand1.proofs.ReadingHeads.{Copied, copied-image, heads-copied, meet, meets, thenMeet, meet-append, passed-payloads, Meets, all, tooLong, seen, meet-is}
 use Rattle.demand1.proofs.HeadCopies.{copies-join, Kept, copies-none, readOf, copies-read, thenRead, read-append}
 
 -- what a search comes to, by what its headers come to

@@ -13,7 +13,7 @@ use Rattle.paper.specs.Waiting.{waitingOn, waitingFrom, waiting}
 use Rattle.paper.specs.Ways.{Each}
 use Rattle.demand1.proofs.Lists.{each-append, each-weaker}
 use Rattle.demand1.proofs.Pages.{from-in}
-use Rattle.demand1.proofs.Does.{Tried, Any}
+use Rattle.demand1.proofs.EachEvent.{Tried, Any}
 use Rattle.demand1.proofs.Searches.{oldest-in}
 use Rattle.demand3.specs.Addresses.{presents, waitingHeadsOn, waitingHeadsFrom, waitingHeads, AlwaysAddressed}
 use Rattle.demand3.proofs.Payloads.{payloads-append}

@@ -13,7 +13,7 @@ use Rattle.paper.specs.Calls.{retry, withRepair}
 use Rattle.laws.proofs.Accepted.{Laid}
 use Rattle.demand1.specs.Range.{Lies, Each}
 use Rattle.demand1.proofs.Lists.{each-append}
-use Rattle.demand1.proofs.Does.{Tried, Any}
+use Rattle.demand1.proofs.EachEvent.{Tried, Any}
 use Rattle.demand1.proofs.Pages.{state-same, walk-same, from-in, all-in}
 use Rattle.demand1.proofs.Lying.{Alike, alike-after, alike-page}
 use Rattle.demand1.proofs.Searches.{FoundIn, first-in, youngest-in, repair-lies}
