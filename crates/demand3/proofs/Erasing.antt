@@ -1,4 +1,4 @@
--- The oldest page, or the sole one, with no present item, is erased: the invariant and the list stay. Assumes nothing.
+-- The oldest page, or the sole one, is erased: the invariant stays, and the list loses what is present there, if anything. Assumes nothing.
 use mathlib.Core.List.{List, [], _++_}
 use mathlib.Core.Path.{_≡_, refl, sym, ap, _∙_, subst}
 use Prim.Native.Nat.{ℕ, suc, _-_, _<_}
@@ -30,9 +30,18 @@ module _ {g : Geometry} {im : List ℕ} {o b : ℕ} (I : Inv g im o b) where
   now-open : state g (imageBy g (erase o) im) o ≡ Open
   now-open = state-this C ∙ rw (ones-unset (g .word))
 
+  -- what is present in the oldest page, and what follows
+  pub list-parted : waiting g im ≡ presentIn g im o ++ run g im o 1 b
+  unfolding run
+  list-parted = listed I ∙ ap (λ (p : ℕ). presentIn g im p ++ run g im o 1 b) (turn-zero g o (S .old-in))
+
+  -- where nothing is present there
+  unparted : presentIn g im o ≡ [] → run g im o 1 b ≡ waiting g im
+  unparted none = sym (list-parted ∙ ap (λ (x : List (List ℕ)). x ++ run g im o 1 b) none)
+
   -- ---- there are Closed pages, and the next page is not Open
 
-  module _ (hb : 0 < b) (ne : state g im (turn g o 1) ≡ Open → ⊥) (none : presentIn g im o ≡ []) where
+  module _ (hb : 0 < b) (ne : state g im (turn g o 1) ≡ Open → ⊥) where
     same-state : (i : ℕ) → 0 < i → i < g .pages → state g (imageBy g (erase o) im) (turn g o i) ≡ state g im (turn g o i)
     same-state i h k = state-other C (turn g o i) (turn-in I i (omega arith)) (turn-apart g o i (S .old-in) h k)
 
@@ -62,20 +71,21 @@ module _ {g : Geometry} {im : List ℕ} {o b : ℕ} (I : Inv g im o b) where
           pages-ok = pages-still-ok I C (erased-ok g (I .good .low) o);
         }
 
-    pub erase-list : waiting g (imageBy g (erase o) im) ≡ waiting g im
-    unfolding run
-    erase-list =
+    pub erase-drops : waiting g (imageBy g (erase o) im) ≡ run g im o 1 b
+    erase-drops =
         let r = S .run-in in
         let z : suc (b - 1) ≡ b = omega arith in
         listed erase-inv ∙ ap (run g gone (turn g o 1) 0) z ∙ run-suc g gone o 0 b (S .old-in) (omega arith)
         ∙ runs-same I gone 1 b (omega arith)
         (λ j l k. walk-other C (turn g o j) (turn-in I j (omega arith)) (turn-apart g o j (S .old-in) (omega arith) (omega arith)))
-        ∙ ap (λ (x : List (List ℕ)). x ++ run g im o 1 b) (sym none ∙ ap (presentIn g im) (sym (turn-zero g o (S .old-in))))
-        ∙ sym (listed I)
+
+    -- nothing is present there: the list stays
+    pub erase-list : presentIn g im o ≡ [] → waiting g (imageBy g (erase o) im) ≡ waiting g im
+    erase-list none = erase-drops ∙ unparted none
 
   -- ---- there is one page
 
-  module _ (sole : g .pages ≡ 1) (none : presentIn g im o ≡ []) where
+  module _ (sole : g .pages ≡ 1) where
     here : turn g o 0 ≡ o
     here = turn-zero g o (S .old-in)
 
@@ -97,11 +107,12 @@ module _ {g : Geometry} {im : List ℕ} {o b : ℕ} (I : Inv g im o b) where
           pages-ok = pages-still-ok I C (erased-ok g (I .good .low) o);
         }
 
-    pub sole-list : waiting g (imageBy g (erase o) im) ≡ waiting g im
+    pub sole-drops : waiting g (imageBy g (erase o) im) ≡ run g im o 1 b
     unfolding run
-    sole-list =
+    sole-drops =
         let z : 0 ≡ b = omega (arith, S .run-in) in
-        listed sole-inv
-        ∙ ap (λ (x : List (List ℕ)). x ++ [])
-        (open-empty sole-inv (turn g o 0) (turn-in I 0 (omega arith)) sole-open ∙ sym none ∙ ap (presentIn g im) (sym here))
-        ∙ ap (λ (x : ℕ). run g im o 0 (suc x)) z ∙ sym (listed I)
+        listed sole-inv ∙ ap (λ (x : List (List ℕ)). x ++ []) (open-empty sole-inv (turn g o 0) (turn-in I 0 (omega arith)) sole-open)
+        ∙ ap (run g im o 1) z
+
+    pub sole-list : presentIn g im o ≡ [] → waiting g (imageBy g (erase o) im) ≡ waiting g im
+    sole-list none = sole-drops ∙ unparted none

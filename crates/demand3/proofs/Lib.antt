@@ -30,6 +30,7 @@ pub mod Written
 pub mod Body
 pub mod Adding
 pub mod Steady
+pub mod ListOnWay
 pub mod Ghosts
 pub mod SpotReady
 pub mod SpotPlan

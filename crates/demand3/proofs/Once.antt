@@ -26,7 +26,7 @@ use Rattle.demand3.proofs.Item.{itemWords}
 use Rattle.demand3.proofs.Adding.{Added, list-stays}
 use Rattle.demand3.proofs.Steady.{Steady, steady-before, steady-after}
 use Rattle.demand3.proofs.Ghosts.{StayRefused}
-use Rattle.demand3.proofs.SpotReady.{SpotReady}
+use Rattle.demand3.proofs.SpotReady.{SpotReady, ready-steady}
 use Rattle.demand3.proofs.SpotSearch.{Spotted, isFull, isAt, spotted-for}
 use Rattle.demand3.proofs.Popping.{zeroed}
 use Rattle.demand3.proofs.Search.{Found, Result, isNothing, isShort, isThis}
@@ -82,7 +82,7 @@ module _ (g : Geometry) (im : List ℕ) (c : Call) {es : List Event} {a : Answer
 -- ---- push
 
 module _ {g : Geometry} {im : List ℕ} {o b : ℕ} (I : Inv g im o b) (gh : Ghost) (slip : List ℕ) (hb : Bytes slip) (t : tooBig g (length slip) ≡ false)
-    {es : List Event} {a₀ : ℕ} (R : SpotReady g im (length slip) es a₀) (q₀ : spotFor g im (length slip) false ≡ plan es (gives (at a₀)))
+    {es : List Event} {a₀ : ℕ} (R : SpotReady g im (length slip) false es a₀) (q₀ : spotFor g im (length slip) false ≡ plan es (gives (at a₀)))
     (N : Full g im (length slip) → ⊥) (Fs : (k : ℕ) → Fair g im gh (pushes slip false) (cutAfter k)) where
   abbrev it : List Event
   it = itemAt g (spotOf (R .site)) slip
@@ -156,7 +156,8 @@ module _ {g : Geometry} {im : List ℕ} {o b : ℕ} (I : Inv g im o b) (gh : Gho
           ∙ ap (λ (x : List (List ℕ)). x ++ (slip ∷ [])) same
 
       by : Side k (storeCount es) → listed (suc k) ≡ longer
-      by (below l) = absurd (apart (sym (list-at g im (pushes slip false) is k (before-less k es it l) ∙ steady-after (steady-before k (R .steady)) .list) ∙ e))
+      by (below l) = absurd (apart (sym (list-at g im (pushes slip false) is k (before-less k es it l)
+          ∙ steady-after (steady-before k (ready-steady R)) .list) ∙ e))
       by (above l) = on (side j n)
         where
           on : Side j n → listed (suc k) ≡ longer
@@ -207,13 +208,13 @@ module _ {g : Geometry} {im : List ℕ} {o b : ℕ} (I : Inv g im o b) (gh : Gho
 once : {g : Geometry} {im : List ℕ} {o b : ℕ} → Inv g im o b → (gh : Ghost) (c : Call) → ((k : ℕ) → Fair g im gh c (cutAfter k)) → ChangesOnce g im c
 once {g} {im} I gh (pushes slip false) Fs = by (tooBig g (length slip)) refl
   where
-    on : tooBig g (length slip) ≡ false → Spotted g im (length slip) (spotFor g im (length slip) false) → ChangesOnce g im (pushes slip false)
-    on t (isFull q F) = steady-once g im (pushes slip false) (plan-full g im slip t q) (idle I) refl
-    on t (isAt es a q R N) = push-once I gh slip (Fs 0 .slip) t R q N Fs
+    on : tooBig g (length slip) ≡ false → Spotted g im (length slip) false (spotFor g im (length slip) false) → ChangesOnce g im (pushes slip false)
+    on t (isFull v q F) = steady-once g im (pushes slip false) (plan-full g im slip t q) (idle I) refl
+    on t (isAt es a q R N) = push-once I gh slip (Fs 0 .slip) t R q (N refl) Fs
 
     by : (t : Bool) → tooBig g (length slip) ≡ t → ChangesOnce g im (pushes slip false)
     by true t = steady-once g im (pushes slip false) (plan-big g im slip t) (idle I) refl
-    by false t = on t (spotted-for I (length slip) (small-enough g (length slip) t .1))
+    by false t = on t (spotted-for I (length slip) (small-enough g (length slip) t .1) false)
 once I gh (pushes slip true) Fs = absurd (Fs 0 .counted)
 once {g} {im} I gh (peeks buf) Fs = steady-once g im (peeks buf) (peekpop.peek-plan I buf) (peekpop.sought I buf .steady) refl
 once {g} {im} I gh (pops buf) Fs = by (peekpop.sought I buf .result)

@@ -28,9 +28,10 @@ use Rattle.demand3.proofs.Site.{Site, current, spotOf, site-in}
 use Rattle.demand3.proofs.Item.{itemWords, count-item, avoid-item}
 use Rattle.demand3.proofs.Written.{Writable, Clear}
 use Rattle.demand3.proofs.Adding.{Added, PassesAsSlip, adding}
-use Rattle.demand3.proofs.Steady.{Steady, rests, steady-before, steady-after, was-there}
+use Rattle.demand3.proofs.Steady.{Steady, rests, steady-before, steady-after}
+use Rattle.demand3.proofs.ListOnWay.{way-there}
 use Rattle.demand3.proofs.Ghosts.{StayRefused, unmet}
-use Rattle.demand3.proofs.SpotReady.{SpotReady}
+use Rattle.demand3.proofs.SpotReady.{SpotReady, ready-steady}
 use Rattle.demand3.proofs.SpotSearch.{Spotted, isFull, isAt, spotted-for}
 use Rattle.demand3.proofs.Step.{Was, Traced, Step, whole-step, cut-step, early-step, steady-step}
 
@@ -71,7 +72,7 @@ module _ (g : Geometry) (im slip : List ℕ) where
 -- ---- the events es have come to the spot, where the slip is then written
 
 module _ {g : Geometry} {im : List ℕ} {o b : ℕ} (I : Inv g im o b) (gh : Ghost) (slip : List ℕ) (hb : Bytes slip) (t : tooBig g (length slip) ≡ false)
-    {es : List Event} {a₀ : ℕ} (R : SpotReady g im (length slip) es a₀) where
+    {es : List Event} {a₀ : ℕ} (R : SpotReady g im (length slip) false es a₀) where
   abbrev jm : List ℕ
   jm = imageAfter g es im
 
@@ -88,7 +89,7 @@ module _ {g : Geometry} {im : List ℕ} {o b : ℕ} (I : Inv g im o b) (gh : Gho
   W = record { bytes = hb; short = small-enough g (length slip) t .0; room = R .room }
 
   pub same-list : waiting g (imageAfter g es im) ≡ waiting g im
-  same-list = steady-after (R .steady) .list
+  same-list = steady-after (ready-steady R) .list
 
   -- after j words
   pub words-clear : (j : ℕ) → StayRefused g im gh (es ++ before j it) → Clear (R .site) (imageAfter g (before j it) (imageAfter g es im))
@@ -111,7 +112,7 @@ module _ {g : Geometry} {im : List ℕ} {o b : ℕ} (I : Inv g im o b) (gh : Gho
           → List·Memᴰ (h .place) (headerAt g im (pushes slip false) w 0) ⊎ Was g im p (h .place) (es ++ before j it)
       by (inl x) = inl (rw (H (x .1)) (List·Memᴰ·head (x .0)))
       by (inr x) =
-          let r = was-there (R .steady) p hp h x in
+          let r = way-there (R .way) p hp h x in
           inr (record { head = h; there = r .0; at = refl; unerased = avoid-append p es (before j it) (r .1) (avoid-before p j it (avoid-item g p a slip)) })
 
   module _ (q₀ : spotFor g im (length slip) false ≡ plan es (gives (at a₀))) (N : Full g im (length slip) → ⊥) where
@@ -148,7 +149,7 @@ module _ {g : Geometry} {im : List ℕ} {o b : ℕ} (I : Inv g im o b) (gh : Gho
         begun n h = header-is g im slip t es a q (cutAfter k) n (lt-ltb (storeCount es + n) k h)
 
         by : Side k (storeCount es) → Step g im (pushes slip false) (cutAfter k)
-        by (below l) = early-step im (pushes slip false) pl k (before-less k es it l) (steady-before k (R .steady))
+        by (below l) = early-step im (pushes slip false) pl k (before-less k es it l) (steady-before k (ready-steady R))
         by (above l) =
             let j : ℕ = k - storeCount es in
             let m : ℕ = wordsFor (g .word) (headerSize g) - 1 in
@@ -167,10 +168,10 @@ push-step {g} {im} {o} {b} I gh slip w F = by (tooBig g (length slip)) refl
     idle : Steady g (waiting g im) im []
     idle = rests (record { old = o; runs = b; inv = I; list = refl })
 
-    on : tooBig g (length slip) ≡ false → Spotted g im (length slip) (spotFor g im (length slip) false) → Step g im (pushes slip false) w
-    on t (isFull q f) = steady-step im (pushes slip false) (plan-full g im slip t q) idle (noRoom t f) w
-    on t (isAt es a q R N) = at-step I gh slip (F .slip) t R q N w F
+    on : tooBig g (length slip) ≡ false → Spotted g im (length slip) false (spotFor g im (length slip) false) → Step g im (pushes slip false) w
+    on t (isFull v q f) = steady-step im (pushes slip false) (plan-full g im slip t q) idle (noRoom t f) w
+    on t (isAt es a q R N) = at-step I gh slip (F .slip) t R q (N refl) w F
 
     by : (t : Bool) → tooBig g (length slip) ≡ t → Step g im (pushes slip false) w
     by true t = steady-step im (pushes slip false) (plan-big g im slip t) idle (big t) w
-    by false t = on t (spotted-for I (length slip) (small-enough g (length slip) t .1))
+    by false t = on t (spotted-for I (length slip) (small-enough g (length slip) t .1) false)

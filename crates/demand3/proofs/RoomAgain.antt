@@ -43,10 +43,10 @@ module _ {g : Geometry} {im : List ℕ} {o b : ℕ} (I : Inv g im o b) where
   -- ---- a push
 
   not-refused : (slip : List ℕ) → tooBig g (length slip) ≡ false → (Full g im (length slip) → ⊥) → planOf g im (pushes slip false) .answer ≡ done
-  not-refused slip t n = by (spotted-for I (length slip) (small-enough g (length slip) t .1))
+  not-refused slip t n = by (spotted-for I (length slip) (small-enough g (length slip) t .1) false)
     where
-      by : Spotted g im (length slip) (spotFor g im (length slip) false) → planOf g im (pushes slip false) .answer ≡ done
-      by (isFull q F) = absurd (n F)
+      by : Spotted g im (length slip) false (spotFor g im (length slip) false) → planOf g im (pushes slip false) .answer ≡ done
+      by (isFull v q F) = absurd (n F)
       by (isAt es a q R N) = ap (λ (p : Plan Answer). p .answer) (plan-at g im slip t es a q)
 
   again : (y : ℕ) → youngest g im ≡ gives y → anyLive (pageWalk g im (next g y) .heads) ≡ false → TakesAny g im

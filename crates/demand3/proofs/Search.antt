@@ -206,7 +206,7 @@ finds : {g : Geometry} (n old : ℕ) {q : List (List ℕ)} (k : ℕ) {jm : List 
 finds n old zero I l h F = let z : ⊥ = omega arith in absurd z
 finds n old (suc zero) I l h F = let z : ⊥ = omega arith in absurd z
 finds {g} n old {q} (suc (suc k)) {jm} {o} {b} I l h F = by (heads-read g n (pageWalk g jm o .heads) jm) (ahead I F)
-    (λ z ne e. finds n old k (erase-inv I z ne e) (erase-list I z ne e ∙ l) (omega arith) (record {
+    (λ z ne e. finds n old k (erase-inv I z ne) (erase-list I z ne e ∙ l) (omega arith) (record {
       apart = λ i h₁ h₂ x. F .apart (suc i) (omega arith) (omega arith) (sym (turn-suc g o i (I .shape .old-in) (omega (arith, I .shape .run-in))) ∙ x);
       sole = λ one. let w : ⊥ = omega (arith, I .shape .run-in) in absurd w;
     }))

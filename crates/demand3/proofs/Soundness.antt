@@ -37,13 +37,13 @@ module _ {g : Geometry} {im : List ℕ} {o b : ℕ} (I : Inv g im o b) where
   pushed : (slip : List ℕ) → Pushed (planOf g im (pushes slip false))
   pushed slip = by (tooBig g (length slip)) refl
     where
-      on : tooBig g (length slip) ≡ false → Spotted g im (length slip) (spotFor g im (length slip) false) → Pushed (planOf g im (pushes slip false))
-      on t (isFull q F) = noRoomLeft (plan-full g im slip t q)
+      on : tooBig g (length slip) ≡ false → Spotted g im (length slip) false (spotFor g im (length slip) false) → Pushed (planOf g im (pushes slip false))
+      on t (isFull v q F) = noRoomLeft (plan-full g im slip t q)
       on t (isAt es a q R N) = made _ (plan-at g im slip t es a q)
 
       by : (t : Bool) → tooBig g (length slip) ≡ t → Pushed (planOf g im (pushes slip false))
       by true t = tooLong (plan-big g im slip t)
-      by false t = on t (spotted-for I (length slip) (small-enough g (length slip) t .1))
+      by false t = on t (spotted-for I (length slip) (small-enough g (length slip) t .1) false)
 
   not-corrupted : (p : Plan Answer) → Pushed p → p .answer ≡ refused refusal.Corrupted → ⊥
   not-corrupted p (tooLong e) a = let f = ap (λ (x : Plan Answer). x .answer) e in let z : _≡_ {A = ℕ} 0 1 = cc in omega arith

@@ -1,7 +1,8 @@
--- A push has come to its spot, by events that keep the invariant and the list. Assumes nothing.
+-- A push has come to its spot, by events that keep the invariant and, unless they overwrite, the list. Assumes nothing.
+use mathlib.Core.Bool.{Bool, false}
 use mathlib.Core.List.{List, [], _∷_, _++_}
 use mathlib.Core.Logic.{inl}
-use mathlib.Core.Path.{_≡_, sym, ap, _∙_}
+use mathlib.Core.Path.{_≡_, refl, sym, ap, _∙_}
 use Prim.Native.Nat.{ℕ, _+_, _≤_}
 use native.Mathlib.Omega.{arith}
 use lib.ListN.{length}
@@ -20,30 +21,34 @@ use Rattle.demand3.proofs.Views.{inner-length}
 use Rattle.demand3.proofs.Invariant.{Inv, current-in, open-walk}
 use Rattle.demand3.proofs.Marking.{mark-inv, mark-list, mark-state, mark-walks}
 use Rattle.demand3.proofs.Site.{Site, current, scanned, spotOf}
-use Rattle.demand3.proofs.Steady.{Steady, rests, goes, startMarked, steady-append}
+use Rattle.demand3.proofs.Steady.{Steady, rests, goes, startMarked}
+use Rattle.demand3.proofs.ListOnWay.{ListOnWay, way-stays, way-append}
 use Rattle.demand3.proofs.Ghosts.{FromBefore}
 
--- a push of n bytes has come to its spot a by the events es
-pub record SpotReady (g : Geometry) (im : List ℕ) (n : ℕ) (es : List Event) (a : ℕ) : Type 0 where
-  pub steady : Steady g (waiting g im) im es
+-- a push of n bytes has come to its spot a by the events es; over: whether overwriting is on
+pub record SpotReady (g : Geometry) (im : List ℕ) (n : ℕ) (over : Bool) (es : List Event) (a : ℕ) : Type 0 where
+  pub way : ListOnWay g im over es
   pub site : Site g (imageAfter g es im)
   pub at-spot : a ≡ spotOf site
   pub room : itemSize g n ≤ length (scanned site .rest)
   pub origin : FromBefore g im (current site) es
+
+-- without overwriting the list stays
+pub ready-steady : {g : Geometry} {im : List ℕ} {n : ℕ} {es : List Event} {a : ℕ} → SpotReady g im n false es a → Steady g (waiting g im) im es
+ready-steady R = way-stays refl (R .way)
 
 pub free-start : (g : Geometry) (im : List ℕ) (p : ℕ) → length (pageWalk g im p .rest) ≡ dataSize g → freeSpot g im p ≡ dataStart g p
 unfolding freeSpot dataEnd
 free-start g im p e = omega arith
 
 -- the events es have come to an Open current page, which is now start-marked
-pub ready-mark : {g : Geometry} (im : List ℕ) (n : ℕ) → headerSize g + n ≤ dataSize g → (es : List Event) → Steady g (waiting g im) im es
+pub ready-mark : {g : Geometry} (im : List ℕ) (n : ℕ) → headerSize g + n ≤ dataSize g → (over : Bool) (es : List Event) → ListOnWay g im over es
     → {o b : ℕ} (I : Inv g (imageAfter g es im) o b) → state g (imageAfter g es im) (turn g o b) ≡ Open
-    → waiting g (imageAfter g es im) ≡ waiting g im
-    → SpotReady g im n (es ++ (setStart g (turn g o b) ∷ [])) (dataStart g (turn g o b))
-ready-mark {g} im n fits es T {o} {b} I e l =
+    → SpotReady g im n over (es ++ (setStart g (turn g o b) ∷ [])) (dataStart g (turn g o b))
+ready-mark {g} im n fits over es T {o} {b} I e =
     let G = mark-inv I e .good in
     record {
-      steady = steady-append T (goes (record { old = o; runs = b; inv = I; list = l }) (startMarked c (current-in I))
+      way = way-append T (λ q l. goes (record { old = o; runs = b; inv = I; list = l }) (startMarked c (current-in I))
           (rests (record { old = o; runs = b; inv = mark-inv I e; list = mark-list I e ∙ l })));
       site = record { old = o; runs = b; inv = rw after (mark-inv I e); partly-now = rw after (mark-state I e) };
       at-spot = rw after (sym (free-start g km c all));

@@ -63,7 +63,7 @@ HeadOf g im p h = List·Memᴰ h (pageWalk g im p .heads)
 same-heads : {v w : Walk} {h : Head} → v ≡ w → List·Memᴰ h (v .heads) → List·Memᴰ h (w .heads)
 same-heads {h = h} e m = subst (λ (x : Walk). List·Memᴰ h (x .heads)) e m
 
-was-before : {g : Geometry} (im : List ℕ) → Laid g (length im) → {e : Event} → AddsNoHead g e → (p : ℕ) → p < g .pages → (h : Head)
+pub was-before : {g : Geometry} (im : List ℕ) → Laid g (length im) → {e : Event} → AddsNoHead g e → (p : ℕ) → p < g .pages → (h : Head)
     → HeadOf g (imageBy g e im) p h
     → (es : List Event) → Avoids p es → HeadOf g im p h × Avoids p (e ∷ es)
 unfolding setStart setEnd imageBy
