@@ -28,9 +28,10 @@
  *   Bytes of the image outside the range never change and have no say.
  *
  * What a caller has to keep
- *   Each pointer is valid for the length that follows it, and is not null even
- *   where that length is 0. Image, geometry, slip and buffer do not overlap.
- *   Apart from that every function takes any numbers and any bytes, and ends.
+ *   A geometry points to a struct; each other pointer is valid for the length
+ *   that follows it, and is not null even where that length is 0. Image,
+ *   geometry, slip and buffer do not overlap. Apart from that every function
+ *   takes any numbers and any bytes, and ends.
  *
  * Threads
  *   The library keeps no state: an image has one caller at a time, and calls on
@@ -101,7 +102,7 @@ typedef struct slipq_geometry {
 #define SLIPQ_CORRUPTED 5u        /* a step failed, and again after one repair */
 #define SLIPQ_CUT 7u              /* the store limit is used up */
 
-/* Refusals of a shape, in the order in which they are tested. */
+/* Refusals of a geometry, in the order in which they are tested. */
 #define SLIPQ_BAD_GEOMETRY 9u                     /* page or word is 0, or page not a multiple of word */
 #define SLIPQ_START_RANGE_NOT_AT_PAGE_BOUNDARY 10u /* start not a multiple of page */
 #define SLIPQ_END_RANGE_NOT_AT_PAGE_BOUNDARY 11u   /* end not a multiple of page */

@@ -1,5 +1,6 @@
 // The C face of the queue: the check, one function for each call, whole and limited, and two that only look at the image. They take what C
-// can pass, numbers and slices, and answer one number. None of those that C can call requires anything. include/slipq.h declares them.
+// can pass, numbers, slices and a geometry as a struct, and answer one number. None of those that C can call requires anything.
+// include/slipq.h declares them.
 ghost use mathlib.Core.Path.{_≡_};
 ghost use Prim.Native.Nat.{_-_, _<_, _≤_};
 ghost use lib.ListN.{length};
@@ -23,7 +24,8 @@ use paper::Shape;
 
 // ---- what C passes
 
-// A geometry is a struct of four numbers in C, of which this is the layout: a field more there is a number more here, and no argument more.
+// In C a geometry is a struct of four numbers, and this array is its layout. A field more there is a number more here: no call gets another
+// argument.
 fn shape_of(geometry: &[u32; 4]) -> Shape
     ensures { λ r. ⌜ r ≡ shapeFrom (now (geometry .entry)) ⌝ }
 {
