@@ -1,6 +1,5 @@
--- Erasing a page, by laws: what its events are, what they make of image and buffer, and how many stores they count. Where an erase comes to be
--- made otherwise, this file changes and its readers do not: nobody else unfolds `erasePage`, but the proof of the function that erases.
--- Assumes nothing.
+-- Erasing a page, by laws: what its events are, how many stores they count, and what they make of image and buffer. A proof that goes by
+-- these does not open `erasePage`; `erase-page-is` is for what no other law here says. Assumes nothing.
 use mathlib.Core.List.{List, [], _∷_, _++_}
 use mathlib.Core.Path.{_≡_, refl, ap, _∙_}
 use Prim.Native.Nat.{ℕ, _+_, _≤_, _<_}
@@ -17,7 +16,7 @@ use Rattle.laws.proofs.Puts.{length-put, part-filled}
 module _ (g : Geometry) (p : ℕ) where
   -- ---- its events
 
-  -- the whole of it: for what no law below says
+  -- the whole of it
   pub erase-page-is : erasePage g p ≡ erase p ∷ []
   unfolding erasePage
   erase-page-is = refl

@@ -5,7 +5,8 @@ use mathlib.Core.Path.{_≡_, refl, sym, _∙_}
 use Prim.Native.Nat.{_+_, _-_, _≤_}
 use native.Mathlib.Nat.{add-zero, sub-zero}
 use lib.ListN.{length, replicate, length-set}
-use Rattle.paper.specs.Chip.{erase, storeCount, imageBy, put, erasePage}
+use Rattle.paper.specs.Chip.{erase, storeCount, imageBy, put}
+use Rattle.laws.proofs.ErasePage.{erase-page-is}
 use Rattle.laws.proofs.Places.{page-in}
 use Rattle.chip.proofs.Running.{did-paid, did-unpaid}
 use Rattle.chip.proofs.Stores.{erase-step, erase-end}
@@ -23,11 +24,12 @@ pay-requires : tie.Need-pay-requires Inv-loop μ-loop
 pay-requires c κs = tt
 
 returns : tie.Need-returns Inv-loop μ-loop
-unfolding erasePage storeCount
+unfolding storeCount
 returns c =
     let args = c .before .before .before .args in
     let pay = c .before .pay in
-    did-unpaid (args .g) (args .b) (erase (args .p .0)) (args .image .now) (pay .result) refl (pay .ensures) (c .if1 .taken)
+    rw (erase-page-is (args .g) (args .p .0))
+    (did-unpaid (args .g) (args .b) (erase (args .p .0)) (args .image .now) (pay .result) refl (pay .ensures) (c .if1 .taken))
 
 calculate-page-address-requires : tie.Need-calculate-page-address-requires Inv-loop μ-loop
 calculate-page-address-requires c κs =
@@ -74,7 +76,7 @@ same-length : tie.Need-same-length Inv-loop μ-loop
 same-length c = c .before .loop .inv .0
 
 returns-2 : tie.Need-returns-2 Inv-loop μ-loop
-unfolding erasePage imageBy storeCount
+unfolding imageBy storeCount
 returns-2 c =
     let a = c .before .before .before .before .before .before .before .before .args in
     let pay-ensures = c .before .before .before .before .before .before .pay .ensures in
@@ -83,9 +85,10 @@ returns-2 c =
     let calculate-page-address-ensures = c .before .before .before .before .calculate-page-address .ensures in
     let calculate-page-address-result-0 = c .before .before .before .before .calculate-page-address .result .0 in
     let l = c .before .loop in
-    did-paid (a .g) (a .b) (erase (a .p .0)) (a .image .now) pay-result refl pay-ensures (l .image) if1-left
+    rw (erase-page-is (a .g) (a .p .0))
+    (did-paid (a .g) (a .b) (erase (a .p .0)) (a .image .now) pay-result refl pay-ensures (l .image) if1-left
     (rw (← calculate-page-address-ensures)
-    (sym (erase-end (l .image) (calculate-page-address-result-0 + l .k) (a .g .page - l .k) (omega arith)) ∙ l .inv .3))
+    (sym (erase-end (l .image) (calculate-page-address-result-0 + l .k) (a .g .page - l .k) (omega arith)) ∙ l .inv .3)))
 
 pub erase-page-spec : {M : Type 1} → statement M
 erase-page-spec =
