@@ -43,6 +43,16 @@ pub fn run(cases: impl Iterator<Item = Case>) -> bool {
 /// What holds of every outcome: bytes outside the range stay; refusals keep what document 01 says they keep; and the call with a
 /// limit does what the whole call does, up to the limit.
 fn sound(case: &Case, outcome: &Outcome) -> Result<(), &'static str> {
+    keeps(case, outcome)?;
+    match case.limit {
+        Some(limit) => cut(case, outcome, limit),
+        None if outcome.numbers[0] == 7 => Err("a cut without a limit"),
+        None => Ok(()),
+    }
+}
+
+/// What every call keeps, and what a refusal keeps.
+fn keeps(case: &Case, outcome: &Outcome) -> Result<(), &'static str> {
     let row = outcome.numbers[0];
     let (start, end) = (case.shape.start as usize, case.shape.end as usize);
     if matches!(row, 2 | 9..=17) {
@@ -57,35 +67,30 @@ fn sound(case: &Case, outcome: &Outcome) -> Result<(), &'static str> {
     if matches!(row, 2 | 3 | 9..=17) && outcome.buffer != case.buffer {
         return Err("a refusal that fills the buffer");
     }
-    let Some(limit) = case.limit else {
-        return if row == 7 {
-            Err("a cut without a limit")
-        } else {
-            Ok(())
-        };
+    Ok(())
+}
+
+/// What a call with a limit does: as much of the whole call, and its last store is one store on from a limit of one less.
+fn cut(case: &Case, outcome: &Outcome, limit: usize) -> Result<(), &'static str> {
+    let with_limit = |limit| {
+        judge(&Case {
+            limit,
+            ..case.clone()
+        })
     };
-    let mut whole_case = case.clone();
-    whole_case.limit = None;
-    let whole = judge(&whole_case);
+    let whole = with_limit(None);
     if limit >= whole.stores.len() {
         if *outcome != whole {
             return Err("a limit that is not reached, and makes a difference");
         }
         return Ok(());
     }
-    if row != 7 || outcome.stores[..] != whole.stores[..limit] {
+    if outcome.numbers[0] != 7 || outcome.stores[..] != whole.stores[..limit] {
         return Err("a limit that is not kept");
     }
     if limit > 0 {
-        let mut shorter_case = case.clone();
-        shorter_case.limit = Some(limit - 1);
-        let shorter = judge(&shorter_case);
-        if !is_one_store(
-            case,
-            &shorter.image,
-            &outcome.image,
-            outcome.stores[limit - 1],
-        ) {
+        let before = with_limit(Some(limit - 1)).image;
+        if !is_one_store(case, &before, &outcome.image, outcome.stores[limit - 1]) {
             return Err("a store that is not one word or page");
         }
     } else if outcome.image != case.image {
