@@ -52,3 +52,4 @@ pub mod RoomAgain
 pub mod Once
 pub mod Premises
 pub mod PremisesMet
+pub mod Passing
