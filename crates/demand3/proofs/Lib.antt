@@ -53,3 +53,4 @@ pub mod FirstAddress
 pub mod Once
 pub mod Premises
 pub mod PremisesMet
+pub mod Passing

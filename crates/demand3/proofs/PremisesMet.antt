@@ -1,11 +1,11 @@
 -- The premises of demand 3 can be met: a history with cuts in which they hold; and one that fills a sole page. By computation. Assumes nothing.
-use mathlib.Core.Bool.{Bool, true, false, _&&_, not}
+use mathlib.Core.Bool.{Bool, true, false, _&&_, not, true≢false}
 use mathlib.Core.List.{List, [], _∷_, List·Memᴰ, List·Memᴰ·cases-cons, List·Memᴰ·not-nil}
 use mathlib.Core.Logic.{⊎-elim}
 use mathlib.Core.Path.{_≡_, refl, ap, sym, subst, _∙_}
-use Prim.Native.Nat.{ℕ, _+_, _-_}
+use Prim.Native.Nat.{ℕ, _+_}
 use native.Mathlib.Omega.{arith}
-use borrow.Author.Tests.{eqb-false, ltb-true}
+use borrow.Author.Tests.{eqb-false, eq-eqb, ltb-true}
 use lib.Dec.{eqb, ltb}
 use lib.ListN.{length}
 use lib.Count.{ones, onesIn}
@@ -49,15 +49,24 @@ clear : List Head → List ℕ → Bool
 clear [] rs = true
 clear (h ∷ hs) rs = away (h .place) rs && clear hs rs
 
--- what stands behind a header at one of the addresses, in place of a slip, has not the slip's CRC
+-- two lists of bytes are the same
+alike : List ℕ → List ℕ → Bool
+alike [] [] = true
+alike [] (y ∷ b) = false
+alike (x ∷ a) [] = false
+alike (x ∷ a) (y ∷ b) = eqb x y && alike a b
+
+-- at none of the addresses a slip's header reads whole while what stands behind it has the slip's CRC
 differs : Geometry → List ℕ → List ℕ → List ℕ → Bool
 differs g slip im [] = true
-differs g slip im (a ∷ l) = not (eqb (dataCrc (part (a + headerSize g) (length slip) im)) (dataCrc slip)) && differs g slip im l
+differs g slip im (a ∷ l) =
+    not (alike (part a (headerSize g) im) (encode g (dataCrc slip) (length slip)) && eqb (dataCrc (part (a + headerSize g) (length slip) im)) (dataCrc slip))
+    && differs g slip im l
 
 stands : Geometry → List ℕ → Call → Power → Bool
 stands g im c whole = true
 stands g im c (cutAfter k) =
-    differs g (slipOf c) (imageNext g im c (cutAfter k)) (headerAt g im c (cutAfter k) (wordsFor (g .word) (headerSize g) - 1))
+    differs g (slipOf c) (imageNext g im c (cutAfter k)) (headerAt g im c (cutAfter k) 0)
 
 fairly : Geometry → List ℕ → Ghost → Call → Power → Bool
 fairly g im gh c w =
@@ -107,23 +116,31 @@ clear-holds (k ∷ hs) rs e h m r =
     ⊎-elim (λ q. away-holds (h .place) rs (ap (λ (x : Head). away (x .place) rs) q ∙ p .0) r) (λ n. clear-holds hs rs (p .1) h n r)
     (List·Memᴰ·cases-cons m)
 
+alike-same : (a : List ℕ) → alike a a ≡ true
+unfolding alike
+alike-same [] = refl
+alike-same (x ∷ a) = rw (eq-eqb x x refl, alike-same a)
+
 differs-holds :
     (g : Geometry) (slip im l : List ℕ) → differs g slip im l ≡ true → (a : ℕ) → List·Memᴰ a l
+    → part a (headerSize g) im ≡ encode g (dataCrc slip) (length slip)
     → dataCrc (part (a + headerSize g) (length slip) im) ≡ dataCrc slip → ⊥
 unfolding differs
-differs-holds g slip im [] e a m same = List·Memᴰ·not-nil m
-differs-holds g slip im (b ∷ l) e a m same =
+differs-holds g slip im [] e a m whole-header same = List·Memᴰ·not-nil m
+differs-holds g slip im (b ∷ l) e a m whole-header same =
+    let header = encode g (dataCrc slip) (length slip) in
     let crc : ℕ → ℕ = λ x. dataCrc (part (x + headerSize g) (length slip) im) in
-    let other = not (eqb (crc b) (dataCrc slip)) in
-    let p = and-true other (differs g slip im l) e in
-    ⊎-elim (λ q. eqb-false (crc b) (dataCrc slip) (not-true (eqb (crc b) (dataCrc slip)) (p .0)) (sym (ap crc q) ∙ same))
-    (λ n. differs-holds g slip im l (p .1) a n same) (List·Memᴰ·cases-cons m)
+    let test : ℕ → Bool = λ x. alike (part x (headerSize g) im) header && eqb (crc x) (dataCrc slip) in
+    let p = and-true (not (test b)) (differs g slip im l) e in
+    let met : test a ≡ true = rw (whole-header, alike-same header, eq-eqb (crc a) (dataCrc slip) same) in
+    ⊎-elim (λ q. true≢false (sym met ∙ ap test q ∙ not-true (test b) (p .0))) (λ n. differs-holds g slip im l (p .1) a n whole-header same)
+    (List·Memᴰ·cases-cons m)
 
 stands-holds : (g : Geometry) (im : List ℕ) (c : Call) (w : Power) → stands g im c w ≡ true → NoPassing g im c w
 unfolding stands
 stands-holds g im c whole e = tt
-stands-holds g im c (cutAfter k) e = λ a m same.
-    absurd (differs-holds g (slipOf c) (imageNext g im c (cutAfter k)) (headerAt g im c (cutAfter k) (wordsFor (g .word) (headerSize g) - 1)) e a m same)
+stands-holds g im c (cutAfter k) e = λ a m h same.
+    absurd (differs-holds g (slipOf c) (imageNext g im c (cutAfter k)) (headerAt g im c (cutAfter k) 0) e a m h same)
 
 -- the sole page is page 0
 sole-page : (g : Geometry) (im : List ℕ) (gh : Ghost) → g .pages ≡ 1 → clear (pageWalk g im 0 .heads) (gh .refusedBefore) ≡ true → NoneAgain g im gh
@@ -177,7 +194,7 @@ unfolding strip blankStrip mishaps imageOf ghostOf listsOf readHeads onMet readP
     put ands imageBy imageAfter storeCount before words writes bind bytesOf numberOf encode blank decode look onward walk pageWalk walkOn
     freeSpot serves live anyLive present payloads zeroBits isSet startMark endMark state setStart next around from allPages first youngest
     oldest retry withRepair tooBig findSpot spotOn spotStep spotFor itemAt pushAt push allowedWord pageCount rules geometryOf judge check
-    waitingOn waiting planOf eventsOf imageNext allFairly fairly counts small clear away stands differs
+    waitingOn waiting planOf eventsOf imageNext allFairly fairly counts small clear away stands differs alike
 premises-met =
     let fair = all-fairly-holds strip blankStrip noGhost mishaps refl refl in
     record {

@@ -2,7 +2,7 @@
 use mathlib.Core.Bool.{Bool, true, false, _||_}
 use mathlib.Core.List.{List, [], _∷_, _++_, List·Memᴰ, List·Memᴰ·head}
 use mathlib.Core.Logic.{_⊎_, inl, inr}
-use mathlib.Core.Path.{_≡_, refl, ap, _∙_}
+use mathlib.Core.Path.{_≡_, refl, sym, ap, _∙_}
 use Prim.Native.Nat.{ℕ, _+_, _-_, _*_, _≤_, _<_}
 use native.Mathlib.Nat.{mul-le-mul-right}
 use native.Mathlib.Omega.{arith}
@@ -11,7 +11,9 @@ use lib.Dec.{ltb}
 use lib.ListN.{length}
 use Rattle.paper.specs.declared.Geometry.{Geometry}
 use Rattle.paper.specs.declared.Refusal.the-variants as refusal
-use Rattle.paper.specs.Chip.{wordsFor, headerSize, dataSize, Event, imageAfter, storeCount, before, plan, bind, gives}
+use Rattle.paper.specs.Checksum.{dataCrc}
+use Rattle.paper.specs.Chip.{headerSize, dataSize, part, Event, imageAfter, storeCount, before, plan, bind, gives}
+use Rattle.paper.specs.Slip.{encode}
 use Rattle.paper.specs.Scan.{pageWalk}
 use Rattle.paper.specs.Refusals.{done, refused}
 use Rattle.paper.specs.Calls.{full, at, tooBig, spotFor, itemAt, pushAt, push, pushes, planOf}
@@ -21,12 +23,11 @@ use Rattle.laws.proofs.Events.{image-append, before-less, before-more, before-a
 use Rattle.laws.proofs.Sides.{Side, below, above, side}
 use Rattle.laws.proofs.Headers.{header-ge}
 use Rattle.demand3.proofs.Events.{avoid-append, avoid-before}
-use Rattle.demand3.proofs.Words.{header-words}
 use Rattle.demand3.proofs.Plans.{bind-known}
 use Rattle.demand3.proofs.Invariant.{Inv}
 use Rattle.demand3.proofs.Site.{Site, current, spotOf, site-in}
-use Rattle.demand3.proofs.Item.{itemWords, count-item, avoid-item}
-use Rattle.demand3.proofs.Written.{Writable, Clear}
+use Rattle.demand3.proofs.Item.{itemWords, item-size, count-item, avoid-item}
+use Rattle.demand3.proofs.Written.{Writable, Clear, after-words, header-reads}
 use Rattle.demand3.proofs.Adding.{Added, PassesAsSlip, adding}
 use Rattle.demand3.proofs.Steady.{Steady, rests, steady-before, steady-after}
 use Rattle.demand3.proofs.ListOnWay.{way-there}
@@ -104,6 +105,27 @@ module _ {g : Geometry} {im : List ℕ} {o b : ℕ} (I : Inv g im o b) (gh : Gho
       let q = image-append g es (before j it) im in
       rw q (adding W j (words-clear j F) (rw q at P))
 
+  -- where j words make a whole header, it reads whole
+  pub header-whole : (j : ℕ) → headerSize g ≤ j * g .word
+      → part (spotOf (R .site)) (headerSize g) (imageAfter g (es ++ before j it) im) ≡ encode g (dataCrc slip) (length slip)
+  header-whole j h = by (side j n)
+    where
+      n : ℕ
+      n = itemWords g slip
+
+      some-of : (i : ℕ) → i ≤ n → headerSize g ≤ i * g .word
+          → part a (headerSize g) (imageAfter g (es ++ before i it) im) ≡ encode g (dataCrc slip) (length slip)
+      some-of i k l = ap (part a (headerSize g)) (image-append g es (before i it) im ∙ after-words W i k) ∙ header-reads W i k l
+
+      all-of : (i : ℕ) → n ≤ i → before i it ≡ it
+      all-of i k = before-all i it (omega (arith, count-item g (I .good .low) slip a))
+
+      by : Side j n → part a (headerSize g) (imageAfter g (es ++ before j it) im) ≡ encode g (dataCrc slip) (length slip)
+      by (below l) = some-of j (omega arith) h
+      by (above l) =
+          ap (λ (x : List Event). part a (headerSize g) (imageAfter g (es ++ x) im)) (all-of j l ∙ sym (all-of n (omega arith)))
+          ∙ some-of n (omega arith) (omega (arith, item-size g (I .good .low) slip))
+
   words-traced : (w : Power) (j : ℕ) → (0 < j → headerAt g im (pushes slip false) w 0 ≡ spotOf (R .site) ∷ [])
       → Added (R .site) slip j (imageAfter g (es ++ before j it) im) → Traced g im (pushes slip false) w (es ++ before j it)
   words-traced w j H A p hp h m = by (A .heads p hp h m)
@@ -122,10 +144,9 @@ module _ {g : Geometry} {im : List ℕ} {o b : ℕ} (I : Inv g im o b) (gh : Gho
     pub pl : planOf g im (pushes slip false) ≡ plan (es ++ it) done
     pl = plan-at g im slip t es a q
 
-    -- k stores are the marks and the whole header
-    past-header : (k : ℕ) → storeCount es ≤ k → headerSize g ≤ (k - storeCount es) * g .word
-        → storeCount es + (wordsFor (g .word) (headerSize g) - 1) < k
-    past-header k l h = omega (arith, header-words g (k - storeCount es) (I .good .low) h, some (side 0 (k - storeCount es)))
+    -- k stores are the marks and the whole header, which is thus begun
+    past-header : (k : ℕ) → storeCount es ≤ k → headerSize g ≤ (k - storeCount es) * g .word → storeCount es + 0 < k
+    past-header k l h = omega (arith, some (side 0 (k - storeCount es)))
       where
         some : Side 0 (k - storeCount es) → 0 < k - storeCount es
         some (below z) = z
@@ -152,11 +173,10 @@ module _ {g : Geometry} {im : List ℕ} {o b : ℕ} (I : Inv g im o b) (gh : Gho
         by (below l) = early-step im (pushes slip false) pl k (before-less k es it l) (steady-before k (ready-steady R))
         by (above l) =
             let j : ℕ = k - storeCount es in
-            let m : ℕ = wordsFor (g .word) (headerSize g) - 1 in
             let bm : before k (es ++ it) ≡ es ++ before j it = before-more k es it l in
             let F₁ : StayRefused g im gh (es ++ before j it) = λ nw. rw (pl, bm) at (F .noneAgain nw) in
             let P₁ : headerSize g ≤ j * g .word → j < itemWords g slip → PassesAsSlip S slip (imageAfter g (es ++ before j it) im) =
-            λ h z. rw (pl, bm) at (F .noPassing a (rw (begun m (past-header k l h)) (List·Memᴰ·head refl))) in
+            λ h z. (rw (pl, bm) at (F .noPassing a (rw (begun 0 (past-header k l h)) (List·Memᴰ·head refl)))) (header-whole j h) in
             let A = words-added j F₁ P₁ in
             let T = words-traced (cutAfter k) j (λ h. begun 0 (omega arith)) A in
             cut-step im (pushes slip false) pl k {o = S .old} {b = S .runs} (rw bm (A .inv)) (rw bm (rw same-list at (A .list))) (rw bm T)

@@ -53,7 +53,7 @@ module _ (g : Geometry) (pos : 0 < g .word) where
       course-walk g pos (over (look-encoded g pos c n rest hc hn low room) (rw z here)) (blank-stop g (drop u rest) (blank-take (headerSize g) (drop u rest) e))
 
   -- words of 4: the first word of a header, and FF behind it
-  half-look : (c : ℕ) (z : List ℕ) → (c % 256 ≡ 255 → ⊥) → headerSize g ≤ 4 + length z → blank z ≡ true → look g (bytesOf 4 c ++ z) ≡ bad
+  pub half-look : (c : ℕ) (z : List ℕ) → (c % 256 ≡ 255 → ⊥) → headerSize g ≤ 4 + length z → blank z ≡ true → look g (bytesOf 4 c ++ z) ≡ bad
   unfolding bytesOf blank numberOf
   half-look c [] low h e = let k : ⊥ = omega (arith, header-ge g pos) in absurd k
   half-look c (p ∷ []) low h e = let k : ⊥ = omega (arith, header-ge g pos) in absurd k

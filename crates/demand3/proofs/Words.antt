@@ -2,12 +2,12 @@
 use mathlib.Core.List.{List, [], _∷_, _++_, append-assoc, append-nil}
 use mathlib.Core.Path.{_≡_, refl, sym, ap, ap₂, _∙_, subst}
 use Prim.Native.Nat.{ℕ, zero, suc, _+_, _-_, _*_, _≤_, _<_}
-use native.Mathlib.Nat.{add-zero, zero-add, zero-mul, suc-add, mul-le-mul-right, le-of-suc-le-suc, div-eq-of-lt-le, le-of-mul-le-mul-right}
+use native.Mathlib.Nat.{add-zero, zero-add, zero-mul, suc-add, mul-le-mul-right, le-of-suc-le-suc, div-eq-of-lt-le}
 use native.Mathlib.Omega.{arith}
 use lib.ListN.{length, take, drop, replicate, length-drop, replicate-append-replicate}
 use lib.Seq.{drop-drop, take-add, length-take-le, take-append-le, drop-append-le}
 use Rattle.paper.specs.declared.Geometry.{Geometry}
-use Rattle.paper.specs.Chip.{roundUp, wordsFor, headerSize, put, ands, Event, store, imageBy, imageAfter, storeCount, before, words, bufferBy, bufferAfter, writes}
+use Rattle.paper.specs.Chip.{wordsFor, put, ands, Event, store, imageBy, imageAfter, storeCount, before, words, bufferBy, bufferAfter, writes}
 use Rattle.laws.proofs.Ands.{ands-length, ands-append, ands-nil}
 use Rattle.laws.proofs.Events.{before-more}
 use Rattle.laws.proofs.Parts.{drop-replicate, take-replicate, take-append, drop-append}
@@ -87,10 +87,6 @@ words-prefix g w (suc j) (suc k) a bs im h l r =
 pub words-whole : (w k : ℕ) → 0 < w → wordsFor w (k * w) ≡ k
 unfolding wordsFor
 words-whole w k h = div-eq-of-lt-le {k = k} w (omega arith) (omega arith)
-
-pub header-words : (g : Geometry) (j : ℕ) → 0 < g .word → headerSize g ≤ j * g .word → wordsFor (g .word) (headerSize g) ≤ j
-unfolding headerSize roundUp
-header-words g j pos h = rw (words-whole (g .word) (wordsFor (g .word) 8) pos) (le-of-mul-le-mul-right {m = wordsFor (g .word) 8} {n = j} {k = g .word} h pos)
 
 before-none : (g : Geometry) (a : ℕ) (bs : List ℕ) → before 0 (writes g a bs) ≡ []
 unfolding writes words before

@@ -4,12 +4,12 @@ use mathlib.Core.List.{List, [], _∷_, _++_, append-assoc}
 use mathlib.Core.Path.{_≡_, refl, sym, ap, _∙_}
 use Prim.Native.Nat.{ℕ, _+_, _-_, _*_, _≤_, _<_}
 use native.Mathlib.Omega.{arith}
-use lib.ListN.{length, take, drop, length-append, length-drop}
-use lib.Seq.{drop-drop, drop-at, length-take-le, take-append-add, drop-append-add}
+use lib.ListN.{length, take, drop, take-append-drop, length-append, length-drop}
+use lib.Seq.{drop-drop, drop-at, take-at, length-take-le, take-append-add, drop-append-add}
 use Rattle.paper.specs.declared.Geometry.{Geometry}
 use Rattle.paper.specs.Checksum.{dataCrc}
 use Rattle.paper.specs.Chip.{roundUp, headerSize, dataStart, dataSize, pageData, put, part, Event, imageAfter, before}
-use Rattle.paper.specs.Slip.{blank, encode, bytesOf}
+use Rattle.paper.specs.Slip.{blank, encode, bytesOf, look, item, bad}
 use Rattle.paper.specs.Scan.{Head, walk, pageWalk}
 use Rattle.paper.specs.Pages.{startMark, endMark}
 use Rattle.paper.specs.Calls.{itemAt}
@@ -21,10 +21,11 @@ use Rattle.laws.proofs.Headers.{header-ge}
 use Rattle.demand3.proofs.Sizes.{itemSize}
 use Rattle.demand3.proofs.Blank.{blank-take, blank-drop}
 use Rattle.demand3.proofs.Bytes.{bytes-append, bytes-drop}
+use Rattle.demand3.proofs.Headers.{look-encoded}
 use Rattle.demand3.proofs.Ands.{ands-blank}
 use Rattle.demand3.proofs.Words.{words-prefix}
 use Rattle.demand3.proofs.Replaced.{NoneAccepted}
-use Rattle.demand3.proofs.Tails.{item-walk, half-walk}
+use Rattle.demand3.proofs.Tails.{item-walk, half-look, half-walk}
 use Rattle.demand3.proofs.Views.{View, in-data, put-inner, page-inside, page-split}
 use Rattle.demand3.proofs.Changed.{Changed, inner-changed}
 use Rattle.demand3.proofs.Site.{Site, current, scanned, spotOf, site-in, front, split, sizes, spot-at, rest-blank, rest-bytes, withTail, Regrown}
@@ -114,6 +115,15 @@ module _ {g : Geometry} {im : List ℕ} {S : Site g im} {slip : List ℕ} (F : W
         rw (spot-at S) (inner-changed im G c (site-in S) f x (withTail S tail-now) fit (put-inner im G c (site-in S) x f fit
         ∙ ap (λ (t : List ℕ). record { first = startMark g im c; inner = t; last = endMark g im c }) (ap (put f x) (split S) ∙ put-at-end (front S) x rest)))
 
+    -- what a header's place reads
+    reads : part (spotOf S) (headerSize g) (withWords S slip j) ≡ take (headerSize g) tail-now
+    reads =
+        let n : ℕ = headerSize g in
+        let f : ℕ = length (front S) in
+        let z : spotOf S ≡ spotOf S + 0 = omega arith in
+        ap (λ (y : ℕ). part y n (withWords S slip j)) z ∙ at-spot (withWords S slip j) 0 n (omega (arith, sizes S, F .room))
+        ∙ ap (λ (v : View). part 0 n (drop f (v .inner))) (words-changed .this) ∙ ap (take n) (drop-at (front S) tail-now f refl)
+
     -- the header is whole
     module _ (h : headerSize g ≤ j * g .word) where
       abbrev E : List ℕ
@@ -179,6 +189,10 @@ module _ {g : Geometry} {im : List ℕ} {S : Site g im} {slip : List ℕ} (F : W
         unmet = U;
       }
 
+      -- the header reads whole
+      pub header-reads : part (spotOf S) (headerSize g) (withWords S slip j) ≡ headerOf g slip
+      header-reads = reads ∙ ap (take (headerSize g)) tail-is ∙ take-at E behind (headerSize g) (length-header g pos slip)
+
       -- what stands in the payload's place
       pub stored-is : part (spotOf S + headerSize g) (length slip) (withWords S slip j) ≡ newHead .body
       unfolding newHead
@@ -212,3 +226,17 @@ module _ {g : Geometry} {im : List ℕ} {S : Site g im} {slip : List ℕ} (F : W
           bytes = tail-bytes 1 one;
           unmet = U;
         }
+
+    -- no header reads whole there
+    pub half-unread : part (spotOf S) (headerSize g) (withWords S slip 1) ≡ headerOf g slip → ⊥
+    half-unread e =
+        let T : List ℕ = tail-now 1 one in
+        let n : ℕ = headerSize g in
+        let D : List ℕ = drop n T in
+        let z : headerOf g slip ++ D ≡ T = ap (λ (l : List ℕ). l ++ D) (sym e ∙ reads 1 one) ∙ take-append-drop n T in
+        let room : roundUp (g .word) (length slip) ≤ length D = omega (arith, length-drop n T, tail-length 1 one, F .room) in
+        let i = look-encoded g pos (dataCrc slip) (length slip) D (data-lt slip) (F .short) (data-low slip .1) room in
+        let b = half-look g pos (dataCrc slip) (drop 4 rest) (data-low slip .1) (omega (arith, length-drop 4 rest, header-ge g pos, F .room))
+        (blank-drop 4 rest (rest-blank S)) in
+        let y : item (dataCrc slip) (length slip) (take (length slip) D) ≡ bad = sym i ∙ ap (look g) (z ∙ half-tail) ∙ b in
+        let x : _≡_ {A = ℕ} 0 1 = cc in omega arith

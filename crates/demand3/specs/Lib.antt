@@ -1,3 +1,4 @@
 pub mod Premises
 pub mod Claims
 pub mod Addresses
+pub mod Passing

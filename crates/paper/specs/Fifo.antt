@@ -3,13 +3,14 @@ use mathlib.Core.Path.{_≡_}
 use mathlib.Core.Bool.{Bool, true, false, cond, _&&_}
 use mathlib.Core.List.{List, [], _∷_, _++_, tail, List·Memᴰ}
 use mathlib.Core.Logic.{_⊎_}
-use Prim.Native.Nat.{ℕ, suc, _+_, _-_, _≤_, _<_}
+use Prim.Native.Nat.{ℕ, suc, _+_, _≤_, _<_}
 use lib.Dec.{leb, ltb}
 use lib.ListN.{length, take, replicate}
 use Rattle.paper.specs.declared.Shape.{Shape}
 use Rattle.paper.specs.declared.Refusal.the-variants as refusal
 use Rattle.paper.specs.Checksum.{dataCrc}
-use Rattle.paper.specs.Chip.{Geometry, headerSize, wordsFor, pageStart, pageBytes, part, Event, store, erase, copy, imageAfter, bufferAfter, storeCount, before, Plan, plan, Try, fails, gives}
+use Rattle.paper.specs.Chip.{Geometry, headerSize, pageStart, pageBytes, part, Event, store, erase, copy, imageAfter, bufferAfter, storeCount, before, Plan, plan, Try, fails, gives}
+use Rattle.paper.specs.Slip.{encode}
 use Rattle.paper.specs.Scan.{Head, pageWalk, serves, live, anyLive}
 use Rattle.paper.specs.Pages.{Closed, state, next, allPages, youngest}
 use Rattle.paper.specs.Refusals.{Accepted, check, Answer, done, shown, number, none, empty, refused}
@@ -139,11 +140,12 @@ NoFalse g im gh = Begun g im gh × NoneAgain g im gh
 
 -- ---- the premise of the cut payload: "no cut payload that differs from its slip passes its checksum"
 
--- once a cut push has its header whole: what then stands in the payload's place passes only where it is the slip
+-- where a cut push began its header, and this now reads whole: what then stands in the payload's place passes only where it is the slip
 abbrev pub NoPassing : Geometry → List ℕ → Call → Power → Type 0
 NoPassing g im c whole = Unit {0}
 NoPassing g im c (cutAfter k) =
-    (a : ℕ) → List·Memᴰ a (headerAt g im c (cutAfter k) (wordsFor (g .word) (headerSize g) - 1))
+    (a : ℕ) → List·Memᴰ a (headerAt g im c (cutAfter k) 0)
+    → part a (headerSize g) (imageNext g im c (cutAfter k)) ≡ encode g (dataCrc (slipOf c)) (length (slipOf c))
     → let stored = part (a + headerSize g) (length (slipOf c)) (imageNext g im c (cutAfter k)) in
     dataCrc stored ≡ dataCrc (slipOf c) → stored ≡ slipOf c
 

@@ -1,0 +1,145 @@
+-- A header reads whole exactly when all its stores are made, so the premise of the cut payload may be counted. Assumes nothing.
+use mathlib.Core.Bool.{Bool, true, false, cond}
+use mathlib.Core.List.{List, [], _∷_, _++_, List·Memᴰ, List·Memᴰ·head, List·Memᴰ·cases-cons, List·Memᴰ·not-nil}
+use mathlib.Core.Logic.{⊎-elim}
+use mathlib.Core.Path.{_≡_, refl, sym, ap, ap₂, _∙_, subst}
+use Prim.Native.Nat.{ℕ, _+_, _-_, _*_, _≤_, _<_}
+use native.Mathlib.Nat.{mul-le-mul-right}
+use native.Mathlib.Omega.{arith}
+use borrow.Author.Tests.{ltb-true, lt-ltb}
+use lib.Dec.{ltb}
+use lib.ListN.{length}
+use Rattle.paper.specs.declared.Geometry.{Geometry}
+use Rattle.paper.specs.Checksum.{dataCrc}
+use Rattle.paper.specs.Chip.{wordsFor, roundUp, headerSize, part, Event, imageAfter, storeCount, before, plan, gives}
+use Rattle.paper.specs.Slip.{encode}
+use Rattle.paper.specs.Calls.{at, tooBig, spotFor, itemAt, Call, pushes, peeks, pops, fits, spaces, erasesAll}
+use Rattle.paper.specs.Fifo.{Power, whole, cutAfter, Counted, slipOf, eventsOf, imageNext, headerPlan, headerAt, Ghost, Bytes, NoPassing, Full}
+use Rattle.laws.proofs.Accepted.{Word, four, wide}
+use Rattle.laws.proofs.Events.{image-append, before-more}
+use Rattle.laws.proofs.Sides.{Side, below, above, side}
+use Rattle.demand3.specs.Passing.{PassingCounted, SameCounted}
+use Rattle.demand3.proofs.Sizes.{wide-header, four-header}
+use Rattle.demand3.proofs.Words.{words-whole}
+use Rattle.demand3.proofs.Invariant.{Inv}
+use Rattle.demand3.proofs.Site.{spotOf}
+use Rattle.demand3.proofs.Item.{one-word}
+use Rattle.demand3.proofs.Written.{after-words, half-unread}
+use Rattle.demand3.proofs.SpotReady.{SpotReady}
+use Rattle.demand3.proofs.SpotSearch.{Spotted, isFull, isAt, spotted-for}
+use Rattle.demand3.proofs.Push.{small-enough, W, header-whole, pl}
+use Rattle.demand3.proofs.Demand3.{held}
+
+abbrev Same : Geometry → List ℕ → Call → Power → Type 0
+Same g im c w = (NoPassing g im c w → PassingCounted g im c w) × (PassingCounted g im c w → NoPassing g im c w)
+
+-- ---- a call that begins no header
+
+none-in : (t : Bool) (x : ℕ) → List·Memᴰ x (cond t [] []) → ⊥
+none-in true x m = List·Memᴰ·not-nil m
+none-in false x m = List·Memᴰ·not-nil m
+
+nowhere : (g : Geometry) (im : List ℕ) (c : Call) → ((k n x : ℕ) → List·Memᴰ x (headerAt g im c (cutAfter k) n) → ⊥) → (w : Power) → Same g im c w
+nowhere g im c f whole = ((λ P. tt), (λ P. tt))
+nowhere g im c f (cutAfter k) = ((λ P a m. absurd (f k (wordsFor (g .word) (headerSize g) - 1) a m)), (λ P a m. absurd (f k 0 a m)))
+
+-- ---- a push at its spot
+
+one-in : (t : Bool) (x a : ℕ) → List·Memᴰ x (cond t (a ∷ []) []) → (t ≡ true) × (x ≡ a)
+one-in true x a m = (refl, ⊎-elim (λ e. e) (λ n. absurd (List·Memᴰ·not-nil n)) (List·Memᴰ·cases-cons m))
+one-in false x a m = absurd (List·Memᴰ·not-nil m)
+
+header-count : (g : Geometry) → 0 < g .word → wordsFor (g .word) (headerSize g) * g .word ≡ headerSize g
+unfolding headerSize roundUp
+header-count g pos = ap (λ (x : ℕ). x * g .word) (words-whole (g .word) (wordsFor (g .word) 8) pos)
+
+four-words : (g : Geometry) → g .word ≡ 4 → wordsFor (g .word) (headerSize g) ≡ 2
+unfolding wordsFor
+four-words g e = rw (four-header g e, e)
+
+module _ {g : Geometry} {im : List ℕ} {o b : ℕ} (I : Inv g im o b) (gh : Ghost) (slip : List ℕ) (hb : Bytes slip) (t : tooBig g (length slip) ≡ false)
+    {es : List Event} {a₀ : ℕ} (R : SpotReady g im (length slip) false es a₀) (q : spotFor g im (length slip) false ≡ plan es (gives (at a₀)))
+    (N : Full g im (length slip) → ⊥) where
+  abbrev it : List Event
+  it = itemAt g (spotOf (R .site)) slip
+
+  abbrev more : ℕ
+  more = wordsFor (g .word) (headerSize g) - 1
+
+  abbrev Reads : ℕ → Type 0
+  Reads k = part a₀ (headerSize g) (imageNext g im (pushes slip false) (cutAfter k)) ≡ encode g (dataCrc slip) (length slip)
+
+  pos : 0 < g .word
+  pos = I .good .low
+
+  begins : (k n : ℕ) → headerAt g im (pushes slip false) (cutAfter k) n ≡ cond (ltb (storeCount es + n) k) (a₀ ∷ []) []
+  unfolding headerAt headerPlan
+  begins k n = rw (t, q)
+
+  begun : (k n : ℕ) → storeCount es + n < k → List·Memᴰ a₀ (headerAt g im (pushes slip false) (cutAfter k) n)
+  begun k n h = rw (begins k n, lt-ltb (storeCount es + n) k h) (List·Memᴰ·head refl)
+
+  met : (k n x : ℕ) → List·Memᴰ x (headerAt g im (pushes slip false) (cutAfter k) n) → (storeCount es + n < k) × (x ≡ a₀)
+  met k n x m =
+      let r = one-in (ltb (storeCount es + n) k) x a₀ (subst (λ (l : List ℕ). List·Memᴰ x l) (begins k n) m) in
+      (ltb-true (storeCount es + n) k (r .0), r .1)
+
+  image : (k j : ℕ) → storeCount es ≤ k → k - storeCount es ≡ j
+      → imageNext g im (pushes slip false) (cutAfter k) ≡ imageAfter g (es ++ before j (itemAt g (spotOf (R .site)) slip)) im
+  unfolding imageNext eventsOf
+  image k j l e = rw (pl I gh slip hb t R q N, before-more k es it l, e)
+
+  all-read : (k : ℕ) → storeCount es + (wordsFor (g .word) (headerSize g) - 1) < k → Reads k
+  all-read k h =
+      let j : ℕ = k - storeCount es in
+      let l : wordsFor (g .word) (headerSize g) * g .word ≤ j * g .word = mul-le-mul-right (g .word) (omega arith) in
+      ap₂ (λ (x : ℕ) (jm : List ℕ). part x (headerSize g) jm) (R .at-spot) (image k j (omega arith) refl)
+      ∙ header-whole I gh slip hb t R j (omega (arith, header-count g pos))
+
+  read-all : (k : ℕ) → storeCount es + 0 < k → Reads k → storeCount es + (wordsFor (g .word) (headerSize g) - 1) < k
+  read-all k h e = by (I .good .word) (side 1 (k - storeCount es))
+    where
+      by : Word (g .word) → Side 1 (k - storeCount es) → storeCount es + more < k
+      by (wide w) s =
+          let z : headerSize g ≡ 1 * g .word = omega (arith, wide-header g w) in
+          omega (arith, ap (wordsFor (g .word)) z, words-whole (g .word) 1 pos)
+      by (four w) (below l) = omega (arith, four-words g w)
+      by (four w) (above l) =
+          let F = W I gh slip hb t R in
+          let one : k - storeCount es ≡ 1 = omega arith in
+          let z = image k 1 (omega arith) one ∙ image-append g es (before 1 it) im ∙ after-words F 1 (one-word g pos slip) in
+          absurd (half-unread F w (sym (ap₂ (λ (x : ℕ) (jm : List ℕ). part x (headerSize g) jm) (R .at-spot) z) ∙ e))
+
+  same-at : (w : Power) → Same g im (pushes slip false) w
+  same-at whole = ((λ P. tt), (λ P. tt))
+  same-at (cutAfter k) = (
+    (λ P x m.
+        let r = met k more x m in
+        P x (rw (r .1) (begun k 0 (omega (arith, r .0)))) (rw (r .1) (all-read k (r .0)))),
+    (λ P x m e.
+        let r = met k 0 x m in
+        P x (rw (r .1) (begun k more (read-all k (r .0) (rw (r .1) at e))))),
+  )
+
+-- ---- every call
+
+same : {g : Geometry} {im : List ℕ} {o b : ℕ} → Inv g im o b → (gh : Ghost) (c : Call) (w : Power) → Counted c w → Bytes (slipOf c) → Same g im c w
+unfolding headerAt headerPlan storeCount
+same {g} {im} I gh (pushes slip false) w n hb = by (tooBig g (length slip)) refl
+  where
+    on : tooBig g (length slip) ≡ false → Spotted g im (length slip) false (spotFor g im (length slip) false) → Same g im (pushes slip false) w
+    on t (isFull v q F) = nowhere g im (pushes slip false) (λ k i x m. none-in (ltb (0 + i) k) x (rw (t, q) at m)) w
+    on t (isAt es a q R N) = same-at I gh slip hb t R q (N refl) w
+
+    by : (t : Bool) → tooBig g (length slip) ≡ t → Same g im (pushes slip false) w
+    by true t = nowhere g im (pushes slip false) (λ k i x m. none-in (ltb (0 + i) k) x (rw t at m)) w
+    by false t = on t (spotted-for I (length slip) (small-enough g (length slip) t .1) false)
+same I gh (pushes slip true) w n hb = absurd n
+same {g} {im} I gh (peeks buf) w n hb = nowhere g im (peeks buf) (λ k i x m. none-in (ltb (0 + i) k) x m) w
+same {g} {im} I gh (pops buf) w n hb = nowhere g im (pops buf) (λ k i x m. none-in (ltb (0 + i) k) x m) w
+same {g} {im} I gh fits w n hb = nowhere g im fits (λ k i x m. none-in (ltb (0 + i) k) x m) w
+same {g} {im} I gh spaces w n hb = nowhere g im spaces (λ k i x m. none-in (ltb (0 + i) k) x m) w
+same {g} {im} I gh erasesAll w n hb = nowhere g im erasesAll (λ k i x m. none-in (ltb (0 + i) k) x m) w
+
+pub same-counted : SameCounted
+same-counted g im gh r c w n hb = same (held r .inv) gh c w n hb
