@@ -219,7 +219,7 @@ unfolding slate blankSlate tornPush imageOf ghostOf headerPlan headerAt kept ref
     dataSize dataEnd pageBytes pageData put ands imageBy imageAfter storeCount before words writes bind bytesOf numberOf encode blank decode
     look onward walk pageWalk freeSpot serves live anyLive present payloads zeroBits isSet startMark endMark state setStart next around from
     allPages first youngest oldest retry withRepair tooBig takePage turnPage findSpot spotOn spotStep spotFor itemAt pushAt push allowedWord
-    pageCount rules geometryOf judge check waitingOn waiting planOf eventsOf imageNext allFairly fairly counts small clear away stands differs
+    pageCount rules geometryOf judge check waitingOn waiting planOf eventsOf imageNext allFairly fairly counts small clear away stands differs alike
 sole-full =
     let fair = all-fairly-holds slate blankSlate noGhost tornPush refl refl in
     record {
