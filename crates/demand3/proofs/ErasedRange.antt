@@ -7,12 +7,13 @@ use native.Mathlib.Omega.{arith}
 use lib.ListN.{length, replicate}
 use Rattle.paper.specs.declared.Geometry.{Geometry}
 use Rattle.paper.specs.declared.PageState.the-variants.{Open}
-use Rattle.paper.specs.Chip.{dataStart, dataSize, erase, erasePage, imageBy, imageAfter}
+use Rattle.paper.specs.Chip.{dataStart, dataSize, erase, imageBy, imageAfter}
 use Rattle.paper.specs.Scan.{Head, Walk, pageWalk}
 use Rattle.paper.specs.Pages.{state}
 use Rattle.paper.specs.Calls.{erases}
 use Rattle.paper.specs.Waiting.{waiting}
 use Rattle.laws.proofs.Accepted.{Laid}
+use Rattle.laws.proofs.ErasePage.{erase-page-is}
 use Rattle.laws.proofs.Marks.{ones-unset}
 use Rattle.laws.proofs.Ring.{turn, turn-lt}
 use Rattle.demand3.proofs.Blank.{blank-replicate}
@@ -60,16 +61,16 @@ pub record Wiped (g : Geometry) (im jm ps : List ℕ) : Type 0 where
 
 pub erases-wipe : (g : Geometry) (ps im : List ℕ) → Laid g (length im) → ((q : ℕ) → List·Memᴰ q ps → q < g .pages)
     → Wiped g im (imageAfter g (erases g ps) im) ps
-unfolding imageAfter erases erasePage
+unfolding imageAfter erases
 erases-wipe g [] im G f = record { long = refl; these = λ q h m. absurd (List·Memᴰ·not-nil m); still = λ q h e. e }
 erases-wipe g (p ∷ ps) im G f =
     let C = erase-changed im G p (f p (List·Memᴰ·head refl)) in
     let R = erases-wipe g ps (imageBy g (erase p) im) (still-good C G) (λ q m. f q (List·Memᴰ·tail m)) in
-    record {
+    rw (erase-page-is g p) (record {
       long = R .long ∙ C .long;
       these = λ q h m. among q h C R (List·Memᴰ·cases-cons m);
       still = λ q h e. R .still q h (every-page C (λ x v. view g im x ≡ erasedView g → v ≡ erasedView g) (λ x k ne y. y) (λ y. refl) q h e);
-    }
+    })
   where
     among : (q : ℕ) → q < g .pages → Changed g im (imageBy g (erase p) im) p (erasedView g)
         → Wiped g (imageBy g (erase p) im) (imageAfter g (erases g ps) (imageBy g (erase p) im)) ps

@@ -10,9 +10,10 @@ use lib.Dec.{eqb}
 use Rattle.paper.specs.declared.Geometry.{Geometry}
 use Rattle.paper.specs.declared.PageState.{PageState}
 use Rattle.paper.specs.declared.PageState.the-variants.{Open, PartialOpen, Closed, Corrupted}
-use Rattle.paper.specs.Chip.{erase, imageBy, imageAfter, erasePage, Plan, plan, bind, Try, gives}
+use Rattle.paper.specs.Chip.{erase, imageBy, imageAfter, Plan, plan, bind, Try, gives}
 use Rattle.paper.specs.Pages.{next, state, same}
 use Rattle.paper.specs.Calls.{Stand, Outcome, nothing, leavePage}
+use Rattle.laws.proofs.ErasePage.{erase-page-is}
 use Rattle.laws.proofs.Marks.{not-same}
 use Rattle.laws.proofs.Ring.{turn, turn-full, next-is}
 use Rattle.laws.proofs.Sides.{Side, below, above, side}
@@ -85,5 +86,5 @@ module _ {g : Geometry} {jm : List ℕ} {o b : ℕ} (I : Inv g jm o b) {old : �
 
   pub leave-on : (further : List ℕ → Plan (Try Stand Outcome)) → endsAt g jm (turn g o 1) old ≡ false
       → leavePage g old true o further jm ≡ plan (erase o ∷ further (imageBy g (erase o) jm) .events) (further (imageBy g (erase o) jm) .answer)
-  unfolding leavePage bind erasePage imageAfter
-  leave-on further s = rw (nx, next-sound, s)
+  unfolding leavePage bind imageAfter
+  leave-on further s = rw (nx, next-sound, s, erase-page-is g o)

@@ -7,10 +7,11 @@ use borrow.Author.Tests.{eq-eqb}
 use lib.Dec.{eqb}
 use Rattle.paper.specs.declared.Geometry.{Geometry}
 use Rattle.paper.specs.declared.PageState.the-variants.{Open, PartialOpen}
-use Rattle.paper.specs.Chip.{dataStart, Event, erase, imageBy, imageAfter, erasePage, Plan, plan, bind, Try, gives}
+use Rattle.paper.specs.Chip.{dataStart, Event, erase, imageBy, imageAfter, Plan, plan, bind, Try, gives}
 use Rattle.paper.specs.Scan.{pageWalk, freeSpot, serves, anyLive}
 use Rattle.paper.specs.Pages.{next, state, setStart, setEnd}
 use Rattle.paper.specs.Calls.{Spot, full, at, takePage, turnPage, findSpot, spotOn}
+use Rattle.laws.proofs.ErasePage.{erase-page-is}
 use Rattle.demand3.proofs.Plans.{bind-first}
 
 and-false : (t : Bool) → (t && false) ≡ false
@@ -33,12 +34,12 @@ module _ (g : Geometry) (im : List ℕ) (over : Bool) where
   reused-over x es v = rw v
 
   pub take-is : (y x : ℕ) → eqb x y ≡ false → takePage g over y x im ≡ reused g im over x (setEnd g y ∷ setStart g x ∷ [])
-  unfolding takePage erasePage
-  take-is y x e = rw e
+  unfolding takePage
+  take-is y x e = rw (e, erase-page-is g x)
 
   pub sole-is : (x : ℕ) → turnPage g over x x PartialOpen im ≡ reused g im over x (setStart g x ∷ [])
-  unfolding turnPage takePage erasePage
-  sole-is x = rw (eq-eqb x x refl)
+  unfolding turnPage takePage
+  sole-is x = rw (eq-eqb x x refl, erase-page-is g x)
 
   module _ (n y : ℕ) where
     pub open-is : state g im y ≡ Open → serves g (pageWalk g (imageBy g (setStart g y) im) y .rest) n ≡ true
