@@ -12,9 +12,9 @@ use Rattle.paper.specs.Chip.{headerSize}
 use Rattle.paper.specs.Slip.{blank, Look, stop, bad, item, look}
 use Rattle.paper.specs.Scan.{Head, Walk, onward, walk}
 use Rattle.laws.proofs.Headers.{header-ge}
+use Rattle.laws.proofs.Looking.{blank-stop}
 use Rattle.demand3.proofs.Sizes.{itemSize}
 use Rattle.demand3.proofs.Blank.{blank-take}
-use Rattle.demand3.proofs.Looks.{blank-stop}
 
 -- from address a over the bytes d the walk comes to the bytes r; it accepts hs and refuses rs on its course
 pub data Course (g : Geometry) : ℕ → List ℕ → List Head → List ℕ → List ℕ → Type 0 where

@@ -18,9 +18,9 @@ use Rattle.laws.proofs.Places.{page-next, page-below}
 use Rattle.laws.proofs.Ring.{all-pages}
 use Rattle.laws.proofs.Sides.{Side, below, above, side}
 use Rattle.laws.proofs.Headers.{header-word, header-ge}
+use Rattle.laws.proofs.Looking.{look-bad, look-item}
 use Rattle.demand3.proofs.Sizes.{itemSize}
 use Rattle.demand3.proofs.Events.{Avoids, avoid-append}
-use Rattle.demand3.proofs.Looks.{look-bad, look-item}
 use Rattle.demand3.proofs.Courses.{Course, here, past, over, course-of}
 use Rattle.demand3.proofs.Replaced.{NoneAccepted}
 use Rattle.demand3.proofs.Views.{inner-low, inner-high, inner-length}
@@ -47,10 +47,10 @@ course-range g pos here x (inr m) = absurd (List·Memᴰ·not-nil (m .1))
 course-range g pos {a} {d} {hs} (past {rs = rs′} l w) x c = by c (λ k. course-range g pos w x k)
   where
     later : Within (a + g .word) (length (drop (g .word) d)) x → Within a (length d) x
-    later r = (omega (arith, r .0), omega (arith, r .1, length-drop (g .word) d, header-word g pos, look-bad g d l .0))
+    later r = (omega (arith, r .0), omega (arith, r .1, length-drop (g .word) d, header-word g pos, look-bad g d l .room))
 
     at : (Met x hs rs′ → Within (a + g .word) (length (drop (g .word) d)) x) → (x ≡ a) ⊎ List·Memᴰ x rs′ → Within a (length d) x
-    at f (inl e) = (omega arith, omega (arith, look-bad g d l .0, header-ge g pos))
+    at f (inl e) = (omega arith, omega (arith, look-bad g d l .room, header-ge g pos))
     at f (inr k) = later (f (inl k))
 
     by : Met x hs (a ∷ rs′) → (Met x hs rs′ → Within (a + g .word) (length (drop (g .word) d)) x) → Within a (length d) x

@@ -15,8 +15,8 @@ use Rattle.paper.specs.Slip.{item, look, blank, bytesOf, encode}
 use Rattle.paper.specs.Fifo.{Bytes}
 use Rattle.checksum.proofs.Adjusted.{length-lt}
 use Rattle.laws.proofs.Headers.{header-ge, length-encode}
+use Rattle.laws.proofs.Looking.{Taken, item-look}
 use Rattle.demand3.proofs.Bytes.{bytes-append, number-bytes, bytes-bytes, bytes-replicate}
-use Rattle.demand3.proofs.Looks.{Accepted, item-look}
 
 -- a first byte that is not FF
 pub first-used : (k b : ℕ) (bs : List ℕ) → 0 < k → (b ≡ 255 → ⊥) → blank (take k (b ∷ bs)) ≡ false
@@ -32,7 +32,7 @@ module _ (g : Geometry) (pos : 0 < g .word) where
 
   -- a header and enough behind it
   module _ (c n : ℕ) (rest : List ℕ) (hc : c < 2 ^ 32) (hn : n < 65536) (low : c % 256 ≡ 255 → ⊥) (room : roundUp (g .word) n ≤ length rest) where
-    pub encoded : Accepted g (encode g c n ++ rest) c n (take n rest)
+    pub encoded : Taken g (encode g c n ++ rest) c n (take n rest)
     unfolding encode bytesOf
     encoded = record {
       room = omega (arith, length-append (encode g c n) rest, length-encode g pos c n);

@@ -24,9 +24,9 @@ use Rattle.laws.proofs.Parts.{length-part}
 use Rattle.laws.proofs.Ring.{turn, turn-once}
 use Rattle.laws.proofs.Rounding.{round-up-ge}
 use Rattle.laws.proofs.Headers.{header-ge}
+use Rattle.laws.proofs.Looking.{Taken, look-item}
 use Rattle.demand3.specs.Addresses.{presents, waitingHeads}
 use Rattle.demand3.proofs.Bytes.{bytes-take, bytes-drop, put-bytes}
-use Rattle.demand3.proofs.Looks.{Accepted, look-item}
 use Rattle.demand3.proofs.Replaced.{NoneAccepted, front-of}
 use Rattle.demand3.proofs.Courses.{course-of}
 use Rattle.demand3.proofs.ZeroedScan.{zeros4, HeadOn, head-on, poppedHead, zeroed-walk}
@@ -96,7 +96,7 @@ module _ {g : Geometry} {im : List ℕ} {h : Head} (F : PresentItem g im h) wher
   unfolding pageWalk
   P = head-on g pos (course-of g pos (dataStart g p) d) (F .pre) h (F .post) (F .heads-are)
 
-  A : Accepted g (P .from) (h .crc) (h .len) (h .body)
+  A : Taken g (P .from) (h .crc) (h .len) (h .body)
   A = look-item g (P .from) (P .seen)
 
   -- what stands before it in its page

@@ -12,9 +12,10 @@ use Rattle.paper.specs.Chip.{headerSize}
 use Rattle.paper.specs.Slip.{Look, stop, bad, item, look, blank}
 use Rattle.paper.specs.Scan.{Head, Walk, onward, walk}
 use Rattle.laws.proofs.Headers.{header-word}
+use Rattle.laws.proofs.Looking.{look-bad, look-item, used-looks}
 use Rattle.demand3.proofs.Sizes.{itemSize}
 use Rattle.demand3.proofs.Blank.{blank-front}
-use Rattle.demand3.proofs.Looks.{look-bad, look-item, look-same, used-looks}
+use Rattle.demand3.proofs.Looks.{look-same}
 use Rattle.demand3.proofs.Courses.{Course, here, past, over, walk-step}
 
 -- none of the addresses rs is accepted
@@ -99,14 +100,14 @@ module _ (g : Geometry) (pos : 0 < g .word) where
       let F = front-of w in
       let B = look-bad g d e in
       let m : ℕ = g .word in
-      let h : m ≤ length d = omega (arith, header-word g pos, B .0) in
+      let h : m ≤ length d = omega (arith, header-word g pos, B .room) in
       let l : List ℕ = longer a m d h F in
-      let used : blank (take (headerSize g) (l ++ r)) ≡ false = rw (← longer-split a m d h F) (B .1) in
+      let used : blank (take (headerSize g) (l ++ r)) ≡ false = rw (← longer-split a m d h F) (B .used) in
       record {
         front = l;
         split = longer-split a m d h F;
         again = λ t f u. past-again a (l ++ t) rs (after hs rs (walk g 0 (a + length l) t))
-            (used-looks g (l ++ t) (omega (arith, longer-length a m d h F t f, B .0)) (blank-front (headerSize g) l r t (f .ff) used)) u (on a m d h F t f);
+            (used-looks g (l ++ t) (omega (arith, longer-length a m d h F t f, B .room)) (blank-front (headerSize g) l r t (f .ff) used)) u (on a m d h F t f);
       }
   front-of {a} {d} {rs = rs} {r = r} (over {n = n} {hs = hs} e w) =
       let F = front-of w in

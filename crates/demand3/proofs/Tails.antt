@@ -14,9 +14,9 @@ use Rattle.paper.specs.Slip.{bad, look, blank, bytesOf, numberOf, encode}
 use Rattle.paper.specs.Scan.{walk}
 use Rattle.checksum.proofs.Adjusted.{length-not-ones}
 use Rattle.laws.proofs.Headers.{header-ge, length-encode}
+use Rattle.laws.proofs.Looking.{bad-look, blank-stop}
 use Rattle.demand3.proofs.Sizes.{itemSize}
 use Rattle.demand3.proofs.Blank.{and-true, blank-take}
-use Rattle.demand3.proofs.Looks.{bad-look, blank-stop}
 use Rattle.demand3.proofs.Headers.{first-used, look-encoded}
 use Rattle.demand3.proofs.Courses.{here, past, over, course-of, course-walk}
 use Rattle.demand3.proofs.Replaced.{NoneAccepted, MayReplace, after, front-of}

@@ -12,8 +12,8 @@ use Rattle.paper.specs.Slip.{item, look, blank, numberOf}
 use Rattle.paper.specs.Scan.{Head, Walk, onward, walk}
 use Rattle.laws.proofs.Puts.{put-at-end}
 use Rattle.laws.proofs.Headers.{header-ge, header-word}
+use Rattle.laws.proofs.Looking.{look-item, look-bad, item-look}
 use Rattle.demand3.proofs.Sizes.{itemSize}
-use Rattle.demand3.proofs.Looks.{look-item, look-bad, item-look}
 use Rattle.demand3.proofs.Headers.{first-used}
 use Rattle.demand3.proofs.Courses.{Course, here, past, over, walk-step, course-of, walk-stops, course-walk}
 use Rattle.demand3.proofs.Replaced.{NoneAccepted, MayReplace, after, Front, front-of}
@@ -52,7 +52,7 @@ module _ (g : Geometry) (pos : 0 < g .word) where
         seen = F .seen;
         later = F .later;
         refused-are = ap (λ (x : List ℕ). a ∷ x) (F .refused-are);
-        place-is = omega (arith, F .place-is, length-drop (g .word) d, header-word g pos, b .0);
+        place-is = omega (arith, F .place-is, length-drop (g .word) d, header-word g pos, b .room);
       }
   head-on {a} {d} {rs = rs} {r = r} (over {c = c} {n = n} {body = body} l w) [] h post e =
       let x : Head = record { place = a; crc = c; len = n; body = body } in
