@@ -20,9 +20,9 @@ use Rattle.laws.proofs.Sides.{Side, below, above, side}
 use Rattle.checksum.proofs.Adjusted.{data-low}
 use Rattle.demand3.proofs.Sizes.{itemSize}
 use Rattle.demand3.proofs.Blank.{blank-is, blank-drop}
-use Rattle.demand3.proofs.Site.{Site, scanned, rest-blank}
+use Rattle.demand3.proofs.Site.{Site, scanned}
 use Rattle.demand3.proofs.Item.{paddedSlip, itemWords, length-padded, item-size, within-item}
-use Rattle.demand3.proofs.Written.{Writable, paid, paid-is, behind, newHead}
+use Rattle.demand3.proofs.Written.{Writable, serves-blank, paid, paid-is, behind, newHead}
 
 -- the first m bytes of s, and FF
 abbrev begun : List ℕ → ℕ → List ℕ
@@ -76,7 +76,7 @@ module _ {g : Geometry} {im : List ℕ} {S : Site g im} {slip : List ℕ} (F : W
           let room : n - m ≤ length D = omega (arith, length-drop (headerSize g + m) (scanned S .rest), F .room, round-up-ge (g .word) n pos) in
           ap (λ (x : List ℕ). take n (x ++ D)) t ∙ take-append n (take m slip) D
           ∙ ap₂ (λ (x y : List ℕ). x ++ y) (take-all n (take m slip) (omega arith))
-          (ap (λ (x : ℕ). take (n - x) D) lt ∙ blank-is (n - m) D (blank-drop (headerSize g + m) (scanned S .rest) (rest-blank S)) room)
+          (ap (λ (x : ℕ). take (n - x) D) lt ∙ blank-is (n - m) D (blank-drop (headerSize g + m) (scanned S .rest) (serves-blank F)) room)
       by (above l) =
           let X : List ℕ = slip ++ Z in
           let k : length (take m X) ≡ m = length-take-le m X (omega (arith, within-item g pos slip j hj, paid-is F j hj h, length-padded g pos slip)) in

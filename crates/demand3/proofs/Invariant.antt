@@ -1,13 +1,14 @@
 -- The invariant of the images of a history, and the list under it. Assumes nothing.
 use mathlib.Core.Bool.{true}
 use mathlib.Core.List.{List, []}
-use mathlib.Core.Path.{_≡_, refl, sym, ap, _∙_}
+use mathlib.Core.Logic.{_⊎_, inr}
+use mathlib.Core.Path.{_≡_, refl, sym, ap, _∙_, subst}
 use Prim.Native.Nat.{ℕ, suc, _+_, _≤_, _<_}
 use lib.Dec.{lit<}
 use lib.ListN.{length, replicate}
 use Rattle.paper.specs.declared.Geometry.{Geometry}
 use Rattle.paper.specs.declared.PageState.the-variants.{Open}
-use Rattle.paper.specs.Chip.{dataStart, dataSize, pageData}
+use Rattle.paper.specs.Chip.{headerSize, dataStart, dataSize, pageData}
 use Rattle.paper.specs.Slip.{blank}
 use Rattle.paper.specs.Scan.{Walk, walk, pageWalk, payloads}
 use Rattle.paper.specs.Pages.{state}
@@ -25,9 +26,13 @@ use Rattle.demand3.proofs.ListedHeads.{headsIn, runHeads, waiting-heads
 use Rattle.demand3.proofs.Listed.{waiting-is, presentIn, run, run-same}
 use Rattle.demand3.proofs.Changed.{Changed, every-page}
 
--- a page: from the free spot on all is FF; with words of 8 and more nothing is refused; an Open page is FF between its marks; bytes are bytes
+-- the rest of a page behind its last item: blank, or shorter than a header
+abbrev pub CleanRest : Geometry → List ℕ → Type 0
+CleanRest g r = (length r < headerSize g) ⊎ (blank r ≡ true)
+
+-- a page: its rest is clean; with words of 8 and more nothing is refused; an Open page is FF between its marks; bytes are bytes
 pub record PageOk (g : Geometry) (p : ℕ) (v : View) : Type 0 where
-  pub clean : blank (walk g 0 (dataStart g p) (v .inner) .rest) ≡ true
+  pub clean : CleanRest g (walk g 0 (dataStart g p) (v .inner) .rest)
   pub quiet : 8 ≤ g .word → walk g 0 (dataStart g p) (v .inner) .refused ≡ []
   pub untouched : stateIn v ≡ Open → blank (v .inner) ≡ true
   pub bytes : Bytes (v .inner)
@@ -43,7 +48,7 @@ erased-ok g pos p =
     let f = blank-replicate (dataSize g) in
     let e = blank-walk g pos (dataStart g p) (replicate (dataSize g) 255) f in
     record {
-      clean = ap (λ (w : Walk). blank (w .rest)) e ∙ f;
+      clean = subst (λ (w : Walk). CleanRest g (w .rest)) (sym e) (inr f);
       quiet = λ h. ap (λ (w : Walk). w .refused) e;
       untouched = λ h. f;
       bytes = bytes-replicate (dataSize g) 255 (lit< tt);

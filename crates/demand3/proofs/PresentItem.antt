@@ -14,7 +14,7 @@ use Rattle.paper.specs.declared.Geometry.{Geometry}
 use Rattle.paper.specs.declared.PageState.the-variants.{Open}
 use Rattle.paper.specs.Checksum.{lengthCrc}
 use Rattle.paper.specs.Chip.{headerSize, dataStart, dataSize, pageData, part, put, imageAfter, before, writes}
-use Rattle.paper.specs.Slip.{encode, blank, numberOf}
+use Rattle.paper.specs.Slip.{encode, numberOf}
 use Rattle.paper.specs.Scan.{Head, Walk, walk, pageWalk, payloads, present, live}
 use Rattle.paper.specs.Pages.{state, startMark, endMark}
 use Rattle.paper.specs.Waiting.{waiting}
@@ -37,7 +37,7 @@ use Rattle.demand3.proofs.Views.{View, stateIn, view, in-data, put-inne
 use Rattle.demand3.proofs.RingShape.{keep-shape}
 use Rattle.demand3.proofs.ListedHeads.{headsIn, runHeads, heads-append, heads-same}
 use Rattle.demand3.proofs.Changed.{Changed, still-good, walk-other, walk-this, states-same, inner-changed}
-use Rattle.demand3.proofs.Invariant.{Inv, turn-in, current-in, open-walk, listed-heads, pages-still-ok}
+use Rattle.demand3.proofs.Invariant.{CleanRest, Inv, turn-in, current-in, open-walk, listed-heads, pages-still-ok}
 
 -- h is a present item, in the page `turns` places after the oldest one
 pub record PresentItem (g : Geometry) (im : List ℕ) (h : Head) : Type 0 where
@@ -243,7 +243,7 @@ module _ {g : Geometry} {im : List ℕ} {h : Head} (F : PresentItem g im h) wher
           shape = keep-shape g im jm o b (I .shape) (λ i k ne. same-state (turn g o i) (turn-in I i (omega arith)))
               (rw (same-state (turn g o b) (current-in I)) (I .shape .now));
           pages-ok = pages-still-ok I C (record {
-            clean = ap (λ (w : Walk). blank (w .rest)) new-walk ∙ K .clean;
+            clean = subst (λ (w : Walk). CleanRest g (w .rest)) (sym new-walk) (K .clean);
             quiet = λ k. ap (λ (w : Walk). w .refused) new-walk ∙ K .quiet k;
             untouched = λ q. absurd (not-open q);
             bytes = put-bytes (length front) zeros4 d (lit< tt, (lit< tt, (lit< tt, (lit< tt, tt)))) (K .bytes);

@@ -1,13 +1,14 @@
 -- The current page's free spot, and what other bytes from there on make of the page, the invariant and the list. Assumes nothing.
 use mathlib.Core.Bool.{true}
 use mathlib.Core.List.{List, [], _++_, append-nil, append-assoc}
+use mathlib.Core.Logic.{inl, inr}
 use mathlib.Core.Path.{_≡_, sym, ap, ap₂, _∙_, subst}
 use Prim.Native.Nat.{ℕ, suc, _+_, _≤_, _<_}
 use native.Mathlib.Omega.{arith}
 use lib.ListN.{length, length-append}
 use Rattle.paper.specs.declared.Geometry.{Geometry}
 use Rattle.paper.specs.declared.PageState.the-variants.{PartialOpen}
-use Rattle.paper.specs.Chip.{dataStart, dataSize, dataEnd, pageData}
+use Rattle.paper.specs.Chip.{headerSize, dataStart, dataSize, dataEnd, pageData}
 use Rattle.paper.specs.Slip.{blank}
 use Rattle.paper.specs.Scan.{Head, Walk, walk, pageWalk, freeSpot, payloads}
 use Rattle.paper.specs.Pages.{state, startMark, endMark}
@@ -22,7 +23,7 @@ use Rattle.demand3.proofs.Views.{View, view, stateIn, inner-length}
 use Rattle.demand3.proofs.RingShape.{partly, keep-shape}
 use Rattle.demand3.proofs.Listed.{presentIn, run, run-append}
 use Rattle.demand3.proofs.Changed.{Changed, still-good, state-other, walk-other, state-this, walk-this}
-use Rattle.demand3.proofs.Invariant.{PageOk, Inv, current-in, turn-in, not-current, listed, runs-same, pages-still-ok}
+use Rattle.demand3.proofs.Invariant.{CleanRest, PageOk, Inv, current-in, turn-in, not-current, listed, runs-same, pages-still-ok}
 
 -- an image whose current page is PartialOpen, so that a push may write at its free spot
 pub record Site (g : Geometry) (im : List ℕ) : Type 0 where
@@ -69,9 +70,14 @@ module _ {g : Geometry} {im : List ℕ} (S : Site g im) where
   unfolding freeSpot dataEnd
   spot-at = omega (arith, sizes)
 
-  pub rest-blank : blank (scanned S .rest) ≡ true
+  -- the rest is blank where a header has room
+  pub rest-blank : headerSize g ≤ length (scanned S .rest) → blank (scanned S .rest) ≡ true
   unfolding pageWalk
-  rest-blank = K .clean
+  rest-blank h = by (K .clean)
+    where
+      by : CleanRest g (scanned S .rest) → blank (scanned S .rest) ≡ true
+      by (inl l) = let z : ⊥ = omega arith in absurd z
+      by (inr e) = e
 
   data-bytes : Bytes (front ++ scanned S .rest)
   data-bytes = subst Bytes split (K .bytes)
@@ -83,12 +89,13 @@ module _ {g : Geometry} {im : List ℕ} (S : Site g im) where
   abbrev pub withTail : List ℕ → View
   withTail t = record { first = startMark g im (current S); inner = front ++ t; last = endMark g im (current S) }
 
--- an image jm with the bytes t from the free spot on, over which the walk accepts hs, refuses rs and leaves r
+-- an image jm with the bytes t from the free spot on, where a header has room; over t the walk accepts hs, refuses rs and leaves r
 pub record Regrown {g : Geometry} {im : List ℕ} (S : Site g im) (jm t : List ℕ) (hs : List Head) (rs r : List ℕ) : Type 0 where
+  pub room : headerSize g ≤ length (scanned S .rest)
   pub long : length t ≡ length (scanned S .rest)
   pub changed : Changed g im jm (current S) (withTail S t)
   pub scan : walk g 0 (spotOf S) t ≡ record { heads = hs; refused = rs; rest = r }
-  pub clean : blank r ≡ true
+  pub clean : CleanRest g r
   pub quiet : 8 ≤ g .word → rs ≡ []
   pub bytes : Bytes t
   pub unmet : NoneAccepted (scanned S .refused) (pageWalk g jm (current S) .heads)
@@ -109,7 +116,7 @@ module _ {g : Geometry} {im : List ℕ} {S : Site g im} {jm t : List ℕ} {hs : 
       let a : ℕ = dataStart g (current S) in
       let d : List ℕ = pageData g im (current S) in
       let W : Walk = walk g 0 a d in
-      rewalk g (I₁ .good .low) a d t (rest-blank S) (R .long) (subst (λ (w : Walk). NoneAccepted (W .refused) (w .heads)) (walk-this C) (R .unmet))
+      rewalk g (I₁ .good .low) a d t (rest-blank S (R .room)) (R .long) (subst (λ (w : Walk). NoneAccepted (W .refused) (w .heads)) (walk-this C) (R .unmet))
       ∙ ap (after (W .heads) (W .refused)) (ap (λ (x : ℕ). walk g 0 x t) (sym (spot-at S)) ∙ R .scan)
 
   pub grow-walk : pageWalk g jm (current S) ≡ new
@@ -129,7 +136,7 @@ module _ {g : Geometry} {im : List ℕ} {S : Site g im} {jm t : List ℕ} {hs : 
         shape = keep-shape g im jm (S .old) (S .runs) (I₁ .shape)
             (λ i k ne. state-other C (turn g (S .old) i) (turn-in I₁ i (omega arith)) (not-current I₁ i k ne)) (partly (state-this C ∙ still-partial));
         pages-ok = pages-still-ok I₁ C (record {
-          clean = ap (λ (w : Walk). blank (w .rest)) new-walk ∙ R .clean;
+          clean = subst (λ (w : Walk). CleanRest g (w .rest)) (sym new-walk) (R .clean);
           quiet = λ k. ap (λ (w : Walk). w .refused) new-walk ∙ ap₂ (λ (x y : List ℕ). x ++ y) (K .quiet k) (R .quiet k);
           untouched = λ q. let s = still-partial in let z : _≡_ {A = ℕ} 0 1 = cc in absurd (omega arith);
           bytes = bytes-append (front S) t (bytes-left (front S) (scanned S .rest) (data-bytes S)) (R .bytes);

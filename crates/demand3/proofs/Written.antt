@@ -1,6 +1,7 @@
 -- The image after some of an item's words at the free spot: what the scan finds there. Assumes nothing.
 use mathlib.Core.Bool.{true}
 use mathlib.Core.List.{List, [], _∷_, _++_, append-assoc}
+use mathlib.Core.Logic.{inr}
 use mathlib.Core.Path.{_≡_, refl, sym, ap, _∙_}
 use Prim.Native.Nat.{ℕ, _+_, _-_, _*_, _≤_, _<_}
 use native.Mathlib.Omega.{arith}
@@ -55,6 +56,13 @@ module _ {g : Geometry} {im : List ℕ} {S : Site g im} {slip : List ℕ} (F : W
   pos : 0 < g .word
   pos = S .inv .good .low
 
+  has-room : headerSize g ≤ length (scanned S .rest)
+  has-room = omega (arith, F .room)
+
+  -- the spot serves, so the rest is blank
+  pub serves-blank : blank (scanned S .rest) ≡ true
+  serves-blank = rest-blank S has-room
+
   spot-in : spotOf S + length (scanned S .rest) ≤ length im
   unfolding dataStart
   spot-in = omega (arith, spot-at S, sizes S, page-inside im (S .inv .good) c (site-in S), page-split (S .inv .good))
@@ -72,7 +80,7 @@ module _ {g : Geometry} {im : List ℕ} {S : Site g im} {slip : List ℕ} (F : W
       let z : spotOf S ≡ spotOf S + 0 = omega arith in
       let f : ℕ = length (front S) in
       ap blank (ap (λ (x : ℕ). part x m im) z ∙ at-spot im 0 m (omega (arith, sizes S)) ∙ ap (take m) (ap (drop f) (split S) ∙ drop-at (front S) rest f refl))
-      ∙ blank-take m rest (rest-blank S)
+      ∙ blank-take m rest serves-blank
 
   module _ (j : ℕ) (hj : j ≤ itemWords g slip) where
     abbrev x : List ℕ
@@ -170,7 +178,7 @@ module _ {g : Geometry} {im : List ℕ} {S : Site g im} {slip : List ℕ} (F : W
           let u : ℕ = roundUp (g .word) (length slip) in
           let q : u ≡ length P + (u - paid) = omega (arith, length-paid, jw, paid-is) in
           ap (λ (y : ℕ). blank (drop y (P ++ D))) q ∙ ap blank (drop-append-add P D (u - paid))
-          ∙ blank-drop (u - paid) D (blank-drop (headerSize g + paid) rest (rest-blank S))
+          ∙ blank-drop (u - paid) D (blank-drop (headerSize g + paid) rest serves-blank)
 
       unfoldable pub newHead : Head
       newHead = record { place = spotOf S; crc = dataCrc slip; len = length slip; body = take (length slip) behind }
@@ -179,11 +187,12 @@ module _ {g : Geometry} {im : List ℕ} {S : Site g im} {slip : List ℕ} (F : W
           → Regrown S (withWords S slip j) tail-now (newHead ∷ []) [] (drop (roundUp (g .word) (length slip)) behind)
       unfolding newHead
       item-regrown U = record {
+        room = has-room;
         long = tail-length;
         changed = words-changed;
         scan = ap (walk g 0 (spotOf S)) tail-is
             ∙ item-walk g pos (spotOf S) (dataCrc slip) (length slip) behind (data-lt slip) (F .short) (data-low slip .1) behind-room behind-blank;
-        clean = behind-blank;
+        clean = inr behind-blank;
         quiet = λ q. refl;
         bytes = tail-bytes;
         unmet = U;
@@ -215,13 +224,14 @@ module _ {g : Geometry} {im : List ℕ} {S : Site g im} {slip : List ℕ} (F : W
 
     pub half-regrown : Clear S (withWords S slip 1) → Regrown S (withWords S slip 1) (tail-now 1 one) [] (spotOf S ∷ []) (drop 4 (scanned S .rest))
     half-regrown U =
-        let e = blank-drop 4 rest (rest-blank S) in
+        let e = blank-drop 4 rest serves-blank in
         record {
+          room = has-room;
           long = tail-length 1 one;
           changed = words-changed 1 one;
           scan = ap (walk g 0 (spotOf S)) half-tail
               ∙ half-walk g pos w4 (spotOf S) (dataCrc slip) (drop 4 rest) (data-low slip .1) (omega (arith, length-drop 4 rest, header-ge g pos, F .room)) e;
-          clean = e;
+          clean = inr e;
           quiet = λ q. let k : ⊥ = omega arith in absurd k;
           bytes = tail-bytes 1 one;
           unmet = U;
@@ -237,6 +247,6 @@ module _ {g : Geometry} {im : List ℕ} {S : Site g im} {slip : List ℕ} (F : W
         let room : roundUp (g .word) (length slip) ≤ length D = omega (arith, length-drop n T, tail-length 1 one, F .room) in
         let i = look-encoded g pos (dataCrc slip) (length slip) D (data-lt slip) (F .short) (data-low slip .1) room in
         let b = half-look g pos (dataCrc slip) (drop 4 rest) (data-low slip .1) (omega (arith, length-drop 4 rest, header-ge g pos, F .room))
-        (blank-drop 4 rest (rest-blank S)) in
+        (blank-drop 4 rest serves-blank) in
         let y : item (dataCrc slip) (length slip) (take (length slip) D) ≡ bad = sym i ∙ ap (look g) (z ∙ half-tail) ∙ b in
         let x : _≡_ {A = ℕ} 0 1 = cc in omega arith
