@@ -22,7 +22,7 @@ use Rattle.laws.proofs.Sides.{Side, below, above, side}
 use Rattle.demand3.proofs.Sizes.{wide-header, four-header}
 use Rattle.demand3.proofs.Changed.{walk-other}
 use Rattle.demand3.proofs.Invariant.{Inv}
-use Rattle.demand3.proofs.Site.{Site, current, scanned, spotOf, Regrown, grow-inv, grow-list, grow-walk}
+use Rattle.demand3.proofs.FreeSpot.{Site, current, scanned, spotOf, Regrown, grow-inv, grow-list, grow-walk}
 use Rattle.demand3.proofs.Item.{itemBytes, itemWords, item-size, count-item, written, one-word}
 use Rattle.demand3.proofs.Written.{Writable, withWords, Clear, after-words, tail-now, behind, newHead, item-regrown, stored-is, half-regrown}
 use Rattle.demand3.proofs.Body.{whole-body, slip-payloads, new-payloads, payloads-slip, body-stays}

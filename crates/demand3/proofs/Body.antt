@@ -20,7 +20,7 @@ use Rattle.laws.proofs.Sides.{Side, below, above, side}
 use Rattle.checksum.proofs.Adjusted.{data-low}
 use Rattle.demand3.proofs.Sizes.{itemSize}
 use Rattle.demand3.proofs.Blank.{blank-is, blank-drop}
-use Rattle.demand3.proofs.Site.{Site, scanned}
+use Rattle.demand3.proofs.FreeSpot.{Site, scanned}
 use Rattle.demand3.proofs.Item.{paddedSlip, itemWords, length-padded, item-size, within-item}
 use Rattle.demand3.proofs.Written.{Writable, serves-blank, paid, paid-is, behind, newHead}
 

@@ -24,7 +24,7 @@ pub mod Invariant
 pub mod Marking
 pub mod Erasing
 pub mod ErasedRange
-pub mod Site
+pub mod FreeSpot
 pub mod Item
 pub mod Written
 pub mod Body

@@ -21,7 +21,7 @@ use Rattle.demand3.specs.Claims.{ChangesOnce, AlwaysOnce}
 use Rattle.demand3.proofs.Events.{avoid-before}
 use Rattle.demand3.proofs.Words.{before-write}
 use Rattle.demand3.proofs.Invariant.{Inv}
-use Rattle.demand3.proofs.Site.{spotOf}
+use Rattle.demand3.proofs.FreeSpot.{spotOf}
 use Rattle.demand3.proofs.Item.{itemWords}
 use Rattle.demand3.proofs.Adding.{Added, list-stays}
 use Rattle.demand3.proofs.Steady.{Steady, steady-before, steady-after}

@@ -22,7 +22,7 @@ use Rattle.demand3.specs.Passing.{PassingCounted, SameCounted}
 use Rattle.demand3.proofs.Sizes.{wide-header, four-header}
 use Rattle.demand3.proofs.Words.{words-whole}
 use Rattle.demand3.proofs.Invariant.{Inv}
-use Rattle.demand3.proofs.Site.{spotOf}
+use Rattle.demand3.proofs.FreeSpot.{spotOf}
 use Rattle.demand3.proofs.Item.{one-word}
 use Rattle.demand3.proofs.Written.{after-words, half-unread}
 use Rattle.demand3.proofs.SpotReady.{SpotReady}

@@ -25,7 +25,7 @@ use Rattle.laws.proofs.Headers.{header-ge}
 use Rattle.demand3.proofs.Events.{avoid-append, avoid-before}
 use Rattle.demand3.proofs.Plans.{bind-known}
 use Rattle.demand3.proofs.Invariant.{Inv}
-use Rattle.demand3.proofs.Site.{Site, current, spotOf, site-in}
+use Rattle.demand3.proofs.FreeSpot.{Site, current, spotOf, site-in}
 use Rattle.demand3.proofs.Item.{itemWords, item-size, count-item, avoid-item}
 use Rattle.demand3.proofs.Written.{Writable, Clear, after-words, header-reads}
 use Rattle.demand3.proofs.Adding.{Added, PassesAsSlip, adding}

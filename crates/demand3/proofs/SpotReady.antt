@@ -20,7 +20,7 @@ use Rattle.demand3.proofs.Events.{one-event}
 use Rattle.demand3.proofs.Views.{inner-length}
 use Rattle.demand3.proofs.Invariant.{Inv, current-in, open-walk}
 use Rattle.demand3.proofs.Marking.{mark-inv, mark-list, mark-state, mark-walks}
-use Rattle.demand3.proofs.Site.{Site, current, scanned, spotOf}
+use Rattle.demand3.proofs.FreeSpot.{Site, current, scanned, spotOf}
 use Rattle.demand3.proofs.Steady.{Steady, rests, goes, startMarked}
 use Rattle.demand3.proofs.ListOnWay.{ListOnWay, way-stays, way-append}
 use Rattle.demand3.proofs.Ghosts.{FromBefore}

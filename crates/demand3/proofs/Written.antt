@@ -29,7 +29,7 @@ use Rattle.demand3.proofs.Replaced.{NoneAccepted}
 use Rattle.demand3.proofs.Tails.{item-walk, half-look, half-walk}
 use Rattle.demand3.proofs.Views.{View, in-data, put-inner, page-inside, page-split}
 use Rattle.demand3.proofs.Changed.{Changed, inner-changed}
-use Rattle.demand3.proofs.Site.{Site, current, scanned, spotOf, site-in, front, split, sizes, spot-at, rest-blank, rest-bytes, withTail, Regrown}
+use Rattle.demand3.proofs.FreeSpot.{Site, current, scanned, spotOf, site-in, front, split, sizes, spot-at, rest-blank, rest-bytes, withTail, Regrown}
 use Rattle.demand3.proofs.Item.{headerOf, paddedSlip, itemBytes, itemWords, length-header, length-padded, length-item, item-size, item-words, written, bytes-written, within-item, length-written, one-word}
 
 -- a slip that a push may write there
