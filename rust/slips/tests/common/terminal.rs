@@ -36,7 +36,9 @@ impl Terminal {
                 ioctl(near.as_raw_fd(), TIOCSWINSZ, size.as_ptr()),
             ]
         };
-        assert_eq!(answers, [0; 3]);
+        if answers != [0; 3] {
+            return None;
+        }
         let far = open(&format!("/dev/pts/{number}"))?;
         Some(Terminal { near, far })
     }
