@@ -34,7 +34,7 @@ pub record CodedShown (g : Geometry) (p : Plan Answer) (i o d e : List ℕ) (r :
   pub coded : Coded g p i o r
   pub buffer : e ≡ bufferAfter g (p .events) i d
 
--- the request c on the shape s, whole and with the limit k
+-- the call c on the shape s, whole and with the limit k
 abbrev pub Answers : Shape → Call → List ℕ → List ℕ → ℕ → Type 0
 Answers s c i o r = Coded (geometryOf s) (requested s i c) i o r
 

@@ -9,7 +9,7 @@ use Rattle.chip.specs.Run.{Whole, WholeShown, under}
 
 -- ---- the whole call
 
--- the request c on the shape s takes the image from i to o and answers x
+-- the call c on the shape s takes the image from i to o and answers x
 abbrev pub Answers : Shape → Call → List ℕ → List ℕ → Answer → Type 0
 Answers s c i o x = Whole (geometryOf s) (requested s i c) i o x
 
