@@ -6,7 +6,7 @@ use Prim.Native.Nat.{ℕ}
 use Rattle.paper.specs.declared.Geometry.{Geometry}
 use Rattle.paper.specs.Chip.{Plan, Try, fails, gives}
 use Rattle.paper.specs.Pages.{repair}
-use Rattle.paper.specs.Calls.{retry, withRepair}
+use Rattle.paper.specs.Steps.{retry, withRepair}
 use Rattle.chip.specs.declared.Budget.{Budget}
 use Rattle.chip.specs.declared.Spent.{Spent}
 use Rattle.chip.specs.Run.{Did, Ran, Showed}

@@ -12,7 +12,7 @@ use Rattle.paper.specs.Chip.{gives, dataSize}
 use Rattle.paper.specs.Scan.{pageWalk, anyLive}
 use Rattle.paper.specs.Pages.{state, next}
 use Rattle.paper.specs.Refusals.{number}
-use Rattle.paper.specs.Calls.{longest, fitBy}
+use Rattle.paper.specs.Counts.{longest, fitBy}
 use Rattle.page.specs.Table.{Table}
 use Rattle.count.specs.Counts.{emptyBy}
 

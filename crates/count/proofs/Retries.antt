@@ -9,7 +9,8 @@ use Rattle.paper.specs.declared.Refusal.the-variants as refusal
 use Rattle.paper.specs.Chip.{Plan, plan, Try, fails, gives, onGiven, settled, bind, imageAfter}
 use Rattle.paper.specs.Pages.{repair, allPages}
 use Rattle.paper.specs.Refusals.{Answer, number, none, refused}
-use Rattle.paper.specs.Calls.{retry, withRepair, counted, spaceOf, space, spaceLeft}
+use Rattle.paper.specs.Steps.{retry, withRepair}
+use Rattle.paper.specs.Counts.{counted, spaceOf, space, spaceLeft}
 use Rattle.chip.specs.declared.Budget.{Budget}
 use Rattle.chip.specs.declared.Spent.{Spent}
 use Rattle.chip.specs.Run.{Did, Ran}

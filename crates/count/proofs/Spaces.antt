@@ -12,7 +12,7 @@ use Rattle.paper.specs.declared.PageState.the-variants.{Open, PartialOpen, Clos
 use Rattle.paper.specs.Chip.{Try, fails, gives, onGiven, dataSize}
 use Rattle.paper.specs.Scan.{pageWalk, serves, anyLive}
 use Rattle.paper.specs.Pages.{state, same, around, allPages}
-use Rattle.paper.specs.Calls.{spaceBy, spaceOf}
+use Rattle.paper.specs.Counts.{spaceBy, spaceOf}
 use Rattle.item.specs.declared.Free.{Free}
 use Rattle.item.specs.declared.Available.the-variants as room
 use Rattle.item.specs.Headers.{available}

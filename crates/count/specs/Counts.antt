@@ -11,7 +11,7 @@ use Rattle.paper.specs.Chip.{Try, fails, gives, settled}
 use Rattle.paper.specs.Scan.{pageWalk, anyLive}
 use Rattle.paper.specs.Pages.{same}
 use Rattle.paper.specs.Refusals.{Answer, refused}
-use Rattle.paper.specs.Calls.{fit, space, spaceBy}
+use Rattle.paper.specs.Counts.{fit, space, spaceBy}
 use Rattle.chip.specs.Within.{addressLimit}
 use Rattle.item.specs.Headers.{availableAs}
 use Rattle.count.specs.declared.Count.{Count}

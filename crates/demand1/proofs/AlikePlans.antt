@@ -9,7 +9,7 @@ use Rattle.paper.specs.declared.PageState.the-variants.{Open, PartialOpen, Clos
 use Rattle.paper.specs.Chip.{Event, imageAfter, Plan, plan, bind, andThen, Try, fails, gives, onGiven}
 use Rattle.paper.specs.Scan.{pageWalk}
 use Rattle.paper.specs.Pages.{state, Found, failed, found, missing, first, foundOr, openFrom, from, allPages, youngest, oldest, repairs, repair}
-use Rattle.paper.specs.Calls.{retry, withRepair}
+use Rattle.paper.specs.Steps.{retry, withRepair}
 use Rattle.laws.proofs.Accepted.{Laid}
 use Rattle.demand1.specs.Range.{Lies, Each}
 use Rattle.demand1.proofs.Lists.{each-append}

@@ -10,7 +10,9 @@ use Rattle.paper.specs.declared.Checked.the-variants.{Accepted}
 use Rattle.paper.specs.Chip.{roundUp, roundDown, Event, bufferAfter}
 use Rattle.paper.specs.Scan.{Head}
 use Rattle.paper.specs.Refusals.{geometryOf, check}
-use Rattle.paper.specs.Calls.{this, push, search, peek, pop, planOf}
+use Rattle.paper.specs.Push.{push}
+use Rattle.paper.specs.Search.{this, search, peek, pop}
+use Rattle.paper.specs.Calls.{planOf}
 use Rattle.laws.proofs.Accepted.{accepted-from}
 use Rattle.laws.proofs.Rounding.{round-up-fits, round-down-le, round-down-gt}
 use Rattle.demand1.specs.Rows.{Way, Seen}

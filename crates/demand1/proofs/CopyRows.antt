@@ -11,7 +11,7 @@ use Rattle.paper.specs.Slip.{encode}
 use Rattle.paper.specs.Scan.{Head}
 use Rattle.paper.specs.Pages.{repair}
 use Rattle.paper.specs.Refusals.{Answer, refused}
-use Rattle.paper.specs.Calls.{Outcome, nothing, short, this, spoilt, search, popped, peek, pop}
+use Rattle.paper.specs.Search.{Outcome, nothing, short, this, spoilt, search, popped, peek, pop}
 use Rattle.laws.proofs.Accepted.{Laid}
 use Rattle.demand1.specs.Range.{Each}
 use Rattle.demand1.specs.Buffers.{copiesIn, copiesOf, OfCopies}

@@ -9,7 +9,8 @@ use Rattle.paper.specs.declared.Refusal.the-variants as refusal
 use Rattle.paper.specs.Chip.{erasePage, plan, Try, fails, gives, onGiven, settled}
 use Rattle.paper.specs.Pages.{state, next, allPages, youngest}
 use Rattle.paper.specs.Refusals.{Answer, refused}
-use Rattle.paper.specs.Calls.{counted, fitBy, fit, findMaxFit, spaceBy, spaceOf, space, spaceLeft, erases, eraseAll}
+use Rattle.paper.specs.Counts.{counted, fitBy, fit, findMaxFit, spaceBy, spaceOf, space, spaceLeft}
+use Rattle.paper.specs.Calls.{erases, eraseAll}
 use Rattle.laws.proofs.Accepted.{Laid}
 use Rattle.laws.proofs.ErasePage.{erase-each}
 use Rattle.laws.proofs.Ring.{next-in}

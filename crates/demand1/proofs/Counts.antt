@@ -15,7 +15,7 @@ use Rattle.paper.specs.Chip.{roundDown, headerSize, dataSize, Event, plan, bind
 use Rattle.paper.specs.Scan.{pageWalk, anyLive}
 use Rattle.paper.specs.Pages.{state, next, allPages, youngest, repair}
 use Rattle.paper.specs.Refusals.{Answer, done, shown, number, none, empty, refused}
-use Rattle.paper.specs.Calls.{counted, longest, fitBy, fit, findMaxFit, spaceOf, space, spaceLeft}
+use Rattle.paper.specs.Counts.{counted, longest, fitBy, fit, findMaxFit, spaceOf, space, spaceLeft}
 use Rattle.demand1.specs.Rows.{repaired, Fails, failed, OfCount}
 use Rattle.demand1.proofs.EachEvent.{Tried, Any}
 use Rattle.demand1.proofs.Steps.{is-fails, fails-not, steps-gives, steps-again}

@@ -8,7 +8,7 @@ use Rattle.paper.specs.declared.Geometry.{Geometry}
 use Rattle.paper.specs.declared.PageState.the-variants.{Corrupted}
 use Rattle.paper.specs.Chip.{wordsFor, Event, store, erase, erasePage, words, writes, imageAfter, Plan, bind, Try, fails, gives}
 use Rattle.paper.specs.Pages.{same, state, allPages, repairs, repair}
-use Rattle.paper.specs.Calls.{retry, withRepair}
+use Rattle.paper.specs.Steps.{retry, withRepair}
 use Rattle.laws.proofs.ErasePage.{erase-each}
 use Rattle.demand1.specs.Range.{Each}
 use Rattle.demand1.proofs.Lists.{each-append, each-any}

@@ -9,7 +9,7 @@ use lib.Dec.{ltb}
 use Rattle.paper.specs.declared.Geometry.{Geometry}
 use Rattle.paper.specs.Chip.{roundUp, headerSize, Event, store, erase, copy, plan, bind, andThen}
 use Rattle.paper.specs.Scan.{Head, live, present}
-use Rattle.paper.specs.Calls.{Met, passed, long, met, readHeads}
+use Rattle.paper.specs.Search.{Met, passed, long, met, readHeads}
 use Rattle.demand1.specs.Range.{Each}
 use Rattle.demand1.specs.Buffers.{copiesIn, copiesOf}
 use Rattle.demand1.specs.Rows.{Passed}

@@ -13,7 +13,7 @@ use Rattle.paper.specs.Slip.{encode}
 use Rattle.paper.specs.Scan.{pageWalk, serves, anyLive}
 use Rattle.paper.specs.Pages.{state, same, setStart, setEnd, next, youngest}
 use Rattle.paper.specs.Refusals.{Answer}
-use Rattle.paper.specs.Calls.{Spot, full, at, tooBig, takePage, turnPage, findSpot, spotOn, spotStep, spotFor, itemAt, pushAt, push}
+use Rattle.paper.specs.Push.{Spot, full, at, tooBig, takePage, turnPage, findSpot, spotOn, spotStep, spotFor, itemAt, pushAt, push}
 use Rattle.laws.proofs.ErasePage.{erase-each}
 use Rattle.demand1.specs.Range.{Each}
 use Rattle.demand1.proofs.Lists.{each-append}

@@ -15,7 +15,7 @@ use Rattle.paper.specs.Chip.{roundUp, roundDown, headerSize, dataSize, Event, e
 use Rattle.paper.specs.Scan.{pageWalk, freeSpot, serves, anyLive}
 use Rattle.paper.specs.Pages.{state, same, setStart, setEnd, next, youngest}
 use Rattle.paper.specs.Refusals.{lengthLimit}
-use Rattle.paper.specs.Calls.{Spot, full, at, tooBig, takePage, turnPage, findSpot, spotOn, spotStep, spotFor, pushAt, push}
+use Rattle.paper.specs.Push.{Spot, full, at, tooBig, takePage, turnPage, findSpot, spotOn, spotStep, spotFor, pushAt, push}
 use Rattle.laws.proofs.Accepted.{neither, Laid}
 use Rattle.laws.proofs.ErasePage.{erase-each}
 use Rattle.laws.proofs.Ring.{next-in}

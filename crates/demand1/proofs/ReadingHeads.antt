@@ -10,7 +10,7 @@ use Rattle.paper.specs.declared.Geometry.{Geometry}
 use Rattle.paper.specs.Checksum.{dataCrc}
 use Rattle.paper.specs.Chip.{roundUp, headerSize, Event, store, erase, copy, imageBy, imageAfter, plan, bind, andThen}
 use Rattle.paper.specs.Scan.{Head, live, present, payloads}
-use Rattle.paper.specs.Calls.{Met, passed, long, met, readHeads}
+use Rattle.paper.specs.Search.{Met, passed, long, met, readHeads}
 use Rattle.demand1.specs.Range.{Each}
 use Rattle.demand1.specs.Buffers.{ReadOf}
 use Rattle.demand1.specs.Rows.{Passed, Stops}

@@ -13,7 +13,7 @@ use Rattle.paper.specs.Slip.{encode}
 use Rattle.paper.specs.Scan.{Head, walkOn, live, present}
 use Rattle.paper.specs.Pages.{state, same, next, oldest}
 use Rattle.paper.specs.Refusals.{Answer, shown}
-use Rattle.paper.specs.Calls.{Met, passed, long, met, readHeads, Stand, fromAddress, afterPage, Outcome, nothing, short, this, spoilt, onMet, readPage, leavePage, nextItem, nextStep, startStep, searchOn, search, shownBy, popped, peek, pop}
+use Rattle.paper.specs.Search.{Met, passed, long, met, readHeads, Stand, fromAddress, afterPage, Outcome, nothing, short, this, spoilt, onMet, readPage, leavePage, nextItem, nextStep, startStep, searchOn, search, shownBy, popped, peek, pop}
 use Rattle.demand1.specs.Range.{Each}
 use Rattle.demand1.specs.Buffers.{Copies, ReadOf}
 use Rattle.demand1.proofs.Lists.{each-weaker, each-any, never}

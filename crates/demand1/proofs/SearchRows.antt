@@ -11,7 +11,8 @@ use Rattle.paper.specs.Chip.{Event, store, erase, copy, imageAfter, Plan, plan,
 use Rattle.paper.specs.Scan.{Head, pageWalk, payloads}
 use Rattle.paper.specs.Pages.{state, from, oldest, repair}
 use Rattle.paper.specs.Refusals.{shown, empty, refused}
-use Rattle.paper.specs.Calls.{Outcome, nothing, short, this, spoilt, withRepair, startStep, searchOn, search, shownBy, popped, peek, pop}
+use Rattle.paper.specs.Steps.{withRepair}
+use Rattle.paper.specs.Search.{Outcome, nothing, short, this, spoilt, startStep, searchOn, search, shownBy, popped, peek, pop}
 use Rattle.laws.proofs.Accepted.{Laid}
 use Rattle.laws.proofs.Marks.{same-is}
 use Rattle.demand1.specs.Range.{Each}

@@ -11,7 +11,8 @@ use Rattle.paper.specs.declared.PageState.{PageState}
 use Rattle.paper.specs.declared.PageState.the-variants.{Open, Corrupted}
 use Rattle.paper.specs.Chip.{dataStart, pageBytes, Event, imageAfter, Plan, plan, bind, Try, gives, settled}
 use Rattle.paper.specs.Pages.{state, same, next, around, from, oldest, repair}
-use Rattle.paper.specs.Calls.{long, Stand, fromAddress, afterPage, Outcome, nothing, spoilt, leavePage, nextItem, nextStep, withRepair, searchOn}
+use Rattle.paper.specs.Steps.{withRepair}
+use Rattle.paper.specs.Search.{long, Stand, fromAddress, afterPage, Outcome, nothing, spoilt, leavePage, nextItem, nextStep, searchOn}
 use Rattle.laws.proofs.Accepted.{Laid}
 use Rattle.laws.proofs.Marks.{same-is}
 use Rattle.laws.proofs.Ring.{next-in, turn-zero}

@@ -13,7 +13,8 @@ use Rattle.paper.specs.Chip.{roundUp, headerSize, dataStart, pageOf, part, Even
 use Rattle.paper.specs.Slip.{encode}
 use Rattle.paper.specs.Scan.{Head, walkOn, live, present}
 use Rattle.paper.specs.Pages.{state, same, next, repair}
-use Rattle.paper.specs.Calls.{Met, passed, long, met, readHeads, Stand, fromAddress, afterPage, Outcome, nothing, this, spoilt, onMet, readPage, leavePage, nextItem, nextStep, retry, withRepair, startStep, searchOn, search, popped, peek, pop}
+use Rattle.paper.specs.Steps.{retry, withRepair}
+use Rattle.paper.specs.Search.{Met, passed, long, met, readHeads, Stand, fromAddress, afterPage, Outcome, nothing, this, spoilt, onMet, readPage, leavePage, nextItem, nextStep, startStep, searchOn, search, popped, peek, pop}
 use Rattle.laws.proofs.Parts.{length-part}
 use Rattle.demand1.specs.Range.{Each}
 use Rattle.demand1.specs.Buffers.{Copies}

@@ -5,7 +5,7 @@ use Prim.Native.Nat.{ℕ}
 use Rattle.paper.specs.declared.Geometry.{Geometry}
 use Rattle.paper.specs.Chip.{Event, imageAfter, Plan, plan, bind, Try, fails, gives}
 use Rattle.paper.specs.Pages.{repair}
-use Rattle.paper.specs.Calls.{retry, withRepair}
+use Rattle.paper.specs.Steps.{retry, withRepair}
 use Rattle.demand1.specs.Rows.{repaired, Fails, failed}
 use Rattle.demand1.proofs.Lists.{never}
 

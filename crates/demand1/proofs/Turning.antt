@@ -12,7 +12,7 @@ use Rattle.paper.specs.declared.PageState.the-variants.{Open, PartialOpen, Clos
 use Rattle.paper.specs.Chip.{Event, Plan, plan, Try, fails, gives}
 use Rattle.paper.specs.Scan.{pageWalk, freeSpot, serves, anyLive}
 use Rattle.paper.specs.Pages.{state, next}
-use Rattle.paper.specs.Calls.{Spot, full, at, takePage, turnPage, findSpot}
+use Rattle.paper.specs.Push.{Spot, full, at, takePage, turnPage, findSpot}
 use Rattle.demand1.proofs.Lists.{never}
 
 -- ---- the next page

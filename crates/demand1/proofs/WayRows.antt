@@ -8,7 +8,7 @@ use Rattle.paper.specs.declared.Refusal.the-variants as refusal
 use Rattle.paper.specs.Chip.{roundUp}
 use Rattle.paper.specs.Scan.{Head}
 use Rattle.paper.specs.Refusals.{shown, empty, refused}
-use Rattle.paper.specs.Calls.{Met, passed, long, met, spoilt, shownBy}
+use Rattle.paper.specs.Search.{Met, passed, long, met, spoilt, shownBy}
 use Rattle.demand1.specs.Range.{Each}
 use Rattle.demand1.specs.Shapes.{Iff}
 use Rattle.demand1.specs.Rows.{Passed, Stops, TooLong, Seen}

@@ -13,7 +13,7 @@ use Rattle.paper.specs.declared.PageState.the-variants.{Open, Corrupted}
 use Rattle.paper.specs.Chip.{dataStart, pageOf, pageBytes, Event, store, erase, copy, erasePage, imageAfter, Plan, plan, bind, andThen, Try, fails, gives}
 use Rattle.paper.specs.Scan.{Head, pageWalk, walkOn, payloads}
 use Rattle.paper.specs.Pages.{state, same, next, around}
-use Rattle.paper.specs.Calls.{Met, passed, long, met, readHeads, Stand, fromAddress, afterPage, Outcome, nothing, short, this, onMet, readPage, leavePage, nextItem}
+use Rattle.paper.specs.Search.{Met, passed, long, met, readHeads, Stand, fromAddress, afterPage, Outcome, nothing, short, this, onMet, readPage, leavePage, nextItem}
 use Rattle.laws.proofs.Accepted.{Laid}
 use Rattle.laws.proofs.Events.{image-append}
 use Rattle.laws.proofs.Marks.{same-is}

@@ -9,7 +9,7 @@ use Rattle.paper.specs.Checksum.{dataCrc}
 use Rattle.paper.specs.Chip.{wordsFor, roundUp, headerSize, pageStart, words, writes}
 use Rattle.paper.specs.Slip.{encode}
 use Rattle.paper.specs.Pages.{setStart, setEnd}
-use Rattle.paper.specs.Calls.{itemAt}
+use Rattle.paper.specs.Push.{itemAt}
 use Rattle.laws.proofs.Accepted.{Laid}
 use Rattle.laws.proofs.Parts.{length-padded}
 use Rattle.laws.proofs.Places.{page-in}

@@ -12,7 +12,8 @@ use Rattle.paper.specs.Scan.{Head, live}
 use Rattle.paper.specs.declared.Refusal.{Refusal}
 use Rattle.paper.specs.declared.Refusal.the-variants as refusal
 use Rattle.paper.specs.Refusals.{geometryOf, check, Answer, shown, refused}
-use Rattle.paper.specs.Calls.{met, readHeads, peek, pop, Call, pushes, planOf, requested}
+use Rattle.paper.specs.Search.{met, readHeads, peek, pop}
+use Rattle.paper.specs.Calls.{Call, pushes, planOf, requested}
 use Rattle.demand1.specs.Range.{Each}
 use Rattle.demand1.specs.Rows.{Way, Passed, TooLong, Seen}
 

@@ -13,7 +13,7 @@ use Rattle.paper.specs.declared.Geometry.{Geometry}
 use Rattle.paper.specs.Checksum.{dataCrc}
 use Rattle.paper.specs.Chip.{roundUp, headerSize, put, part, Event, imageAfter, before}
 use Rattle.paper.specs.Scan.{Head, Walk, pageWalk, payloads}
-use Rattle.paper.specs.Calls.{itemAt}
+use Rattle.paper.specs.Push.{itemAt}
 use Rattle.paper.specs.Waiting.{waiting}
 use Rattle.laws.proofs.Accepted.{Word, four, wide}
 use Rattle.laws.proofs.Events.{before-all}

@@ -9,7 +9,7 @@ use lib.Seq.{take-append-le, take-take}
 use Rattle.paper.specs.declared.Geometry.{Geometry}
 use Rattle.paper.specs.Chip.{roundUp, headerSize, part, put, Event, erase, copy, imageBy, imageAfter, bufferBy, bufferAfter, Plan, plan, bind}
 use Rattle.paper.specs.Scan.{Head, payloads, present, live}
-use Rattle.paper.specs.Calls.{Met, passed, long, met, readHeads}
+use Rattle.paper.specs.Search.{Met, passed, long, met, readHeads}
 use Rattle.laws.proofs.Events.{image-append, buffer-append}
 use Rattle.demand3.proofs.Events.{Avoids}
 use Rattle.demand3.proofs.Payloads.{not-present}

@@ -11,7 +11,7 @@ use Rattle.paper.specs.declared.Geometry.{Geometry}
 use Rattle.paper.specs.Checksum.{dataCrc}
 use Rattle.paper.specs.Chip.{roundUp, wordsFor, headerSize, Event, storeCount, words, writes}
 use Rattle.paper.specs.Slip.{encode}
-use Rattle.paper.specs.Calls.{itemAt}
+use Rattle.paper.specs.Push.{itemAt}
 use Rattle.paper.specs.Fifo.{Bytes}
 use Rattle.laws.proofs.Rounding.{round-up-ge}
 use Rattle.laws.proofs.Sides.{Side, below, above, side}

@@ -12,7 +12,7 @@ use Rattle.paper.specs.declared.PageState.{PageState}
 use Rattle.paper.specs.declared.PageState.the-variants.{Open, PartialOpen, Closed, Corrupted}
 use Rattle.paper.specs.Chip.{erase, imageBy, imageAfter, Plan, plan, bind, Try, gives}
 use Rattle.paper.specs.Pages.{next, state, same}
-use Rattle.paper.specs.Calls.{Stand, Outcome, nothing, leavePage}
+use Rattle.paper.specs.Search.{Stand, Outcome, nothing, leavePage}
 use Rattle.laws.proofs.ErasePage.{erase-page-is}
 use Rattle.laws.proofs.Marks.{not-same}
 use Rattle.laws.proofs.Ring.{turn, turn-full, next-is}

@@ -9,7 +9,9 @@ use Rattle.paper.specs.declared.PageState.the-variants.{Corrupted}
 use Rattle.paper.specs.Chip.{Event, imageAfter, Plan, plan, bind, Try, fails, gives}
 use Rattle.paper.specs.Pages.{allPages, state, same, repairs, repair}
 use Rattle.paper.specs.Refusals.{Answer, done}
-use Rattle.paper.specs.Calls.{retry, withRepair, counted, fit, findMaxFit, space, spaceLeft, erases, eraseAll, fits, spaces, erasesAll, planOf}
+use Rattle.paper.specs.Steps.{retry, withRepair}
+use Rattle.paper.specs.Counts.{counted, fit, findMaxFit, space, spaceLeft}
+use Rattle.paper.specs.Calls.{erases, eraseAll, fits, spaces, erasesAll, planOf}
 use Rattle.paper.specs.Waiting.{waiting}
 use Rattle.paper.specs.Fifo.{Power, whole, fitted, measured, cleared}
 use Rattle.laws.proofs.Accepted.{Laid}

@@ -11,7 +11,8 @@ use Rattle.paper.specs.Chip.{put, Event, imageAfter, bufferAfter, storeCount, b
 use Rattle.paper.specs.Slip.{encode}
 use Rattle.paper.specs.Scan.{Head, pageWalk}
 use Rattle.paper.specs.Refusals.{Answer, shown, empty, refused}
-use Rattle.paper.specs.Calls.{Outcome, this, shownBy, popped, peek, pop, peeks, pops, planOf}
+use Rattle.paper.specs.Search.{Outcome, this, shownBy, popped, peek, pop}
+use Rattle.paper.specs.Calls.{peeks, pops, planOf}
 use Rattle.paper.specs.Pages.{from}
 use Rattle.paper.specs.Waiting.{waiting}
 use Rattle.paper.specs.Ways.{onTheWay, Seen, Way, direct}

@@ -4,7 +4,7 @@ use mathlib.Core.Path.{_≡_, refl, ap, _∙_}
 use Prim.Native.Nat.{ℕ}
 use Rattle.paper.specs.declared.Geometry.{Geometry}
 use Rattle.paper.specs.Chip.{Event, imageAfter, Plan, plan, bind, Try, gives}
-use Rattle.paper.specs.Calls.{retry, withRepair}
+use Rattle.paper.specs.Steps.{retry, withRepair}
 
 -- after a plan that is known, what is planned on its answer
 pub bind-known : {A B : Type 0} (g : Geometry) (im : List ℕ) {p : Plan A} {es : List Event} {a : A} (next : A → List ℕ → Plan B) → p ≡ plan es a

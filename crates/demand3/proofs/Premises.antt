@@ -8,7 +8,9 @@ use Rattle.paper.specs.Slip.{bytesOf, numberOf, encode, blank, decode, look}
 use Rattle.paper.specs.Scan.{onward, walk, pageWalk, freeSpot, serves, live, anyLive, present, payloads}
 use Rattle.paper.specs.Pages.{zeroBits, isSet, startMark, endMark, state, setStart, setEnd, next, around, from, allPages, first, youngest, oldest}
 use Rattle.paper.specs.Refusals.{allowedWord, pageCount, rules, geometryOf, judge, check}
-use Rattle.paper.specs.Calls.{retry, withRepair, tooBig, takePage, turnPage, findSpot, spotOn, spotStep, spotFor, itemAt, pushAt, push, planOf}
+use Rattle.paper.specs.Steps.{retry, withRepair}
+use Rattle.paper.specs.Push.{tooBig, takePage, turnPage, findSpot, spotOn, spotStep, spotFor, itemAt, pushAt, push}
+use Rattle.paper.specs.Calls.{planOf}
 use Rattle.paper.specs.Waiting.{waitingOn, waiting}
 use Rattle.paper.specs.Fifo.{eventsOf, imageNext}
 use Rattle.demand3.specs.Premises.{sheet, blankSheet, halfHeader, unlucky, ambiguous, PremisesNeeded}

@@ -17,7 +17,10 @@ use Rattle.paper.specs.Slip.{bytesOf, numberOf, encode, blank, decode, look}
 use Rattle.paper.specs.Scan.{Head, onward, walk, pageWalk, walkOn, freeSpot, serves, live, anyLive, present, payloads}
 use Rattle.paper.specs.Pages.{zeroBits, isSet, startMark, endMark, state, setStart, next, around, from, allPages, first, youngest, oldest}
 use Rattle.paper.specs.Refusals.{allowedWord, pageCount, rules, geometryOf, judge, check}
-use Rattle.paper.specs.Calls.{retry, withRepair, tooBig, takePage, turnPage, findSpot, spotOn, spotStep, spotFor, itemAt, pushAt, push, readHeads, onMet, readPage, nextItem, nextStep, startStep, searchOn, search, pop, Call, pushes, peeks, pops, fits, spaces, erasesAll, planOf}
+use Rattle.paper.specs.Steps.{retry, withRepair}
+use Rattle.paper.specs.Push.{tooBig, takePage, turnPage, findSpot, spotOn, spotStep, spotFor, itemAt, pushAt, push}
+use Rattle.paper.specs.Search.{readHeads, onMet, readPage, nextItem, nextStep, startStep, searchOn, search, pop}
+use Rattle.paper.specs.Calls.{Call, pushes, peeks, pops, fits, spaces, erasesAll, planOf}
 use Rattle.paper.specs.Waiting.{waitingOn, waiting}
 use Rattle.paper.specs.Fifo.{Power, whole, cutAfter, Counted, slipOf, eventsOf, imageNext, headerPlan, headerAt, Ghost, kept, refusals, ghostNext, NoneAgain, NoPassing, Bytes, Fair, Erased, Reached, fresh, further}
 use Rattle.demand3.specs.Premises.{Step, imageOf, ghostOf, AllFair, listsOf, strip, blankStrip, noGhost, mishaps, PremisesMet, slate, blankSlate, tornPush, SoleFull}

@@ -10,7 +10,7 @@ use Rattle.paper.specs.declared.PageState.the-variants.{Open}
 use Rattle.paper.specs.Chip.{roundUp, headerSize, dataStart, part, Event, erase, imageBy, imageAfter, bufferAfter, Plan, plan, bind, Try, gives, settled}
 use Rattle.paper.specs.Scan.{Head, Walk, pageWalk, payloads, present}
 use Rattle.paper.specs.Pages.{next, state}
-use Rattle.paper.specs.Calls.{passed, long, met, readHeads, Stand, fromAddress, afterPage, Outcome, nothing, short, this, spoilt, onMet, leavePage, nextItem, nextStep, startStep, searchOn, search}
+use Rattle.paper.specs.Search.{passed, long, met, readHeads, Stand, fromAddress, afterPage, Outcome, nothing, short, this, spoilt, onMet, leavePage, nextItem, nextStep, startStep, searchOn, search}
 use Rattle.paper.specs.Waiting.{waiting}
 use Rattle.laws.proofs.Events.{image-append, buffer-append}
 use Rattle.laws.proofs.Ring.{turn, turn-zero, turn-suc, turn-apart, next-is}

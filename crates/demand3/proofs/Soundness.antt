@@ -13,7 +13,10 @@ use Rattle.paper.specs.declared.PageState.the-variants.{Open, PartialOpen, Clos
 use Rattle.paper.specs.Chip.{Event, Plan, plan, Try, gives, settled}
 use Rattle.paper.specs.Pages.{allPages, state}
 use Rattle.paper.specs.Refusals.{Answer, done, number, refused}
-use Rattle.paper.specs.Calls.{tooBig, spotFor, shownBy, Outcome, counted, spaceBy, spaceOf, space, spaceLeft, eraseAll, Call, pushes, peeks, pops, fits, spaces, erasesAll, planOf}
+use Rattle.paper.specs.Push.{tooBig, spotFor}
+use Rattle.paper.specs.Search.{shownBy, Outcome}
+use Rattle.paper.specs.Counts.{counted, spaceBy, spaceOf, space, spaceLeft}
+use Rattle.paper.specs.Calls.{eraseAll, Call, pushes, peeks, pops, fits, spaces, erasesAll, planOf}
 use Rattle.laws.proofs.Ring.{pages-only}
 use Rattle.paper.specs.Fifo.{whole, Counted}
 use Rattle.demand3.specs.Claims.{Sound, AlwaysSound}

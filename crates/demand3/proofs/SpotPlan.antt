@@ -10,7 +10,7 @@ use Rattle.paper.specs.declared.PageState.the-variants.{Open, PartialOpen}
 use Rattle.paper.specs.Chip.{dataStart, Event, erase, imageBy, imageAfter, Plan, plan, bind, Try, gives}
 use Rattle.paper.specs.Scan.{pageWalk, freeSpot, serves, anyLive}
 use Rattle.paper.specs.Pages.{next, state, setStart, setEnd}
-use Rattle.paper.specs.Calls.{Spot, full, at, takePage, turnPage, findSpot, spotOn}
+use Rattle.paper.specs.Push.{Spot, full, at, takePage, turnPage, findSpot, spotOn}
 use Rattle.laws.proofs.ErasePage.{erase-page-is}
 use Rattle.demand3.proofs.Plans.{bind-first}
 

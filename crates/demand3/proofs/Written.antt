@@ -13,7 +13,7 @@ use Rattle.paper.specs.Chip.{roundUp, headerSize, dataStart, dataSize, pageData
 use Rattle.paper.specs.Slip.{blank, encode, bytesOf, look, item, bad}
 use Rattle.paper.specs.Scan.{Head, walk, pageWalk}
 use Rattle.paper.specs.Pages.{startMark, endMark}
-use Rattle.paper.specs.Calls.{itemAt}
+use Rattle.paper.specs.Push.{itemAt}
 use Rattle.paper.specs.Fifo.{Bytes}
 use Rattle.laws.proofs.Puts.{put-at-end}
 use Rattle.laws.proofs.Rounding.{round-up-ge}

@@ -12,7 +12,8 @@ use Rattle.paper.specs.Chip.{dataSize, gives}
 use Rattle.paper.specs.Scan.{pageWalk, anyLive}
 use Rattle.paper.specs.Pages.{state, next, youngest, repair}
 use Rattle.paper.specs.Refusals.{done, empty, refused}
-use Rattle.paper.specs.Calls.{tooBig, Call, pushes, peeks, pops, fits, spaces, planOf}
+use Rattle.paper.specs.Push.{tooBig}
+use Rattle.paper.specs.Calls.{Call, pushes, peeks, pops, fits, spaces, planOf}
 use Rattle.paper.specs.Waiting.{waiting}
 use Rattle.paper.specs.Fifo.{whole, cutAfter, Counted, imageNext, listAfter, Ghost, NoneAgain, NoFalse, Fair, Reached}
 

@@ -14,7 +14,8 @@ use Rattle.paper.specs.Chip.{dataSize, storeCount, gives}
 use Rattle.paper.specs.Scan.{pageWalk, anyLive}
 use Rattle.paper.specs.Pages.{next, youngest}
 use Rattle.paper.specs.Refusals.{check, Answer, done, empty, refused}
-use Rattle.paper.specs.Calls.{tooBig, Call, pushes, planOf, requested}
+use Rattle.paper.specs.Push.{tooBig}
+use Rattle.paper.specs.Calls.{Call, pushes, planOf, requested}
 use Rattle.paper.specs.Waiting.{waiting}
 use Rattle.paper.specs.Fifo.{Power, whole, cutAfter, bufferOf, Ghost, Fair, Erased, Plain, listAfter}
 use Rattle.demand1.specs.Range.{Outside, Agree}

@@ -8,7 +8,7 @@ use lib.Dec.{ltb}
 use Rattle.paper.specs.declared.Geometry.{Geometry}
 use Rattle.paper.specs.Chip.{Event, copy, roundUp, headerSize, Plan, plan, andThen}
 use Rattle.paper.specs.Scan.{Head, live, present}
-use Rattle.paper.specs.Calls.{Met, long, met, readHeads}
+use Rattle.paper.specs.Search.{Met, long, met, readHeads}
 use Rattle.item.specs.declared.Item.{Item}
 use Rattle.item.specs.declared.MaybeItem.{MaybeItem}
 use Rattle.item.specs.declared.MaybeItem.the-variants as maybe

@@ -11,7 +11,7 @@ use Rattle.paper.specs.declared.Geometry.{Geometry}
 use Rattle.paper.specs.Chip.{roundUp, roundDown, headerSize}
 use Rattle.paper.specs.Scan.{Walk, serves}
 use Rattle.paper.specs.Refusals.{number, none}
-use Rattle.paper.specs.Calls.{longest}
+use Rattle.paper.specs.Counts.{longest}
 use Rattle.chip.specs.Within.{Good}
 use Rattle.chip.specs.declared.Address.{Address}
 use Rattle.laws.proofs.Rounding.{round-down-le, round-up-behind}

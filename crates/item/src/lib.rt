@@ -7,7 +7,7 @@ ghost use lib.ListN.{length, take};
 ghost use Rattle.paper.specs.Chip.{headerSize, dataEnd, part, put, writes};
 ghost use Rattle.paper.specs.Slip.{numberOf, encode, blank, decode};
 ghost use Rattle.paper.specs.Scan.{pageWalk, anyLive};
-ghost use Rattle.paper.specs.Calls.{itemAt};
+ghost use Rattle.paper.specs.Push.{itemAt};
 ghost use Rattle.paper.specs.Refusals.{lengthLimit};
 ghost use Rattle.chip.specs.Within.{Good, Within};
 ghost use Rattle.chip.specs.Run.{Did};

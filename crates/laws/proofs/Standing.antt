@@ -8,7 +8,7 @@ use native.Mathlib.Omega.{arith}
 use Rattle.paper.specs.declared.Geometry.{Geometry}
 use Rattle.paper.specs.Chip.{pageStart, dataStart, dataSize, dataEnd, pageOf, pageData, bind}
 use Rattle.paper.specs.Scan.{pageWalk, walkOn}
-use Rattle.paper.specs.Calls.{readHeads, fromAddress, afterPage, onMet, readPage, nextItem}
+use Rattle.paper.specs.Search.{readHeads, fromAddress, afterPage, onMet, readPage, nextItem}
 
 module _ (g : Geometry) (inner : g .word < g .page) where
   pub page-of-start : (p : ℕ) → pageOf g (dataStart g p) ≡ p

@@ -9,7 +9,11 @@ use Rattle.paper.specs.Slip.{bytesOf, numberOf, encode, blank, decode, l
 use Rattle.paper.specs.Scan.{onward, walk, pageWalk, walkOn, freeSpot, serves, live, anyLive, present, payloads}
 use Rattle.paper.specs.Pages.{zeroBits, isSet, startMark, endMark, state, setStart, setEnd, next, around, from, allPages, first, youngest, oldest, repairs, repair}
 use Rattle.paper.specs.Refusals.{allowedWord, pageCount, rules, geometryOf, judge, check, row, numbers}
-use Rattle.paper.specs.Calls.{retry, withRepair, tooBig, takePage, turnPage, findSpot, spotOn, spotStep, spotFor, itemAt, pushAt, push, readHeads, onMet, readPage, leavePage, nextItem, nextStep, startStep, searchOn, search, peek, pop, counted, longest, fitBy, fit, findMaxFit, spaceBy, spaceOf, space, spaceLeft, erases, eraseAll, limited}
+use Rattle.paper.specs.Steps.{retry, withRepair}
+use Rattle.paper.specs.Push.{tooBig, takePage, turnPage, findSpot, spotOn, spotStep, spotFor, itemAt, pushAt, push}
+use Rattle.paper.specs.Search.{readHeads, onMet, readPage, leavePage, nextItem, nextStep, startStep, searchOn, search, peek, pop}
+use Rattle.paper.specs.Counts.{counted, longest, fitBy, fit, findMaxFit, spaceBy, spaceOf, space, spaceLeft}
+use Rattle.paper.specs.Calls.{erases, eraseAll, limited}
 use Rattle.paper.specs.Waiting.{waitingOn, waiting}
 use Rattle.paper.specs.Cases as cases
 use Rattle.paper.specs.Examples as examples

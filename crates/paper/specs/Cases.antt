@@ -9,7 +9,10 @@ use Rattle.paper.specs.Chip.{Geometry, imageAfter, storeCount, Plan}
 use Rattle.paper.specs.Slip.{bytesOf}
 use Rattle.paper.specs.Scan.{freeSpot}
 use Rattle.paper.specs.Refusals.{Checked, Accepted, Refused, check, Answer, row, numbers}
-use Rattle.paper.specs.Calls.{push, pop, findMaxFit, spaceLeft, limited}
+use Rattle.paper.specs.Push.{push}
+use Rattle.paper.specs.Search.{pop}
+use Rattle.paper.specs.Counts.{findMaxFit, spaceLeft}
+use Rattle.paper.specs.Calls.{limited}
 use Rattle.paper.specs.Waiting.{waiting}
 
 pub record Case : Type 0 where

@@ -9,7 +9,10 @@ use Rattle.paper.specs.Chip.{Geometry, Event, store, erase, copy, imageA
 use Rattle.paper.specs.Scan.{freeSpot}
 use Rattle.paper.specs.Pages.{rank, state, setStart, setEnd, youngest, oldest}
 use Rattle.paper.specs.Refusals.{check, Answer}
-use Rattle.paper.specs.Calls.{push, peek, pop, findMaxFit, spaceLeft, limited}
+use Rattle.paper.specs.Push.{push}
+use Rattle.paper.specs.Search.{peek, pop}
+use Rattle.paper.specs.Counts.{findMaxFit, spaceLeft}
+use Rattle.paper.specs.Calls.{limited}
 use Rattle.paper.specs.Waiting.{waiting}
 use Rattle.paper.specs.Cases.{Case, expect, says, checks}
 

@@ -11,10 +11,11 @@ use Rattle.paper.specs.declared.Refusal.the-variants as refusal
 use Rattle.paper.specs.Checksum.{dataCrc}
 use Rattle.paper.specs.Chip.{Geometry, headerSize, pageStart, pageBytes, part, Event, store, erase, copy, imageAfter, bufferAfter, storeCount, before, Plan, plan, Try, fails, gives}
 use Rattle.paper.specs.Slip.{encode}
-use Rattle.paper.specs.Scan.{Head, pageWalk, serves, live, anyLive}
-use Rattle.paper.specs.Pages.{Closed, state, next, allPages, youngest}
+use Rattle.paper.specs.Scan.{Head, pageWalk}
+use Rattle.paper.specs.Pages.{allPages}
 use Rattle.paper.specs.Refusals.{Accepted, check, Answer, done, shown, number, none, empty, refused}
-use Rattle.paper.specs.Calls.{Spot, full, at, tooBig, spotFor, Call, pushes, peeks, pops, fits, spaces, erasesAll, planOf}
+use Rattle.paper.specs.Push.{Full, Spot, full, at, tooBig, spotFor}
+use Rattle.paper.specs.Calls.{Call, pushes, peeks, pops, fits, spaces, erasesAll, planOf}
 use Rattle.paper.specs.Waiting.{waiting}
 use Rattle.paper.specs.Ways.{Each, Passed, TooLong, Seen, Way}
 
@@ -173,14 +174,6 @@ pub data Reached (g : Geometry) : List ℕ → Ghost → Type 0 where
       → Reached g (imageNext g im c w) (ghostNext g im gh c w)
 
 -- ---- the claim
-
--- row 3: "no spot here, next page Closed or the sole page, and it has a live header"; n is the slip's length
-pub record Full (g : Geometry) (im : List ℕ) (n : ℕ) : Type 0 where
-  pub page : ℕ
-  pub current : youngest g im ≡ gives page
-  pub noSpot : serves g (pageWalk g im page .rest) n ≡ false
-  pub again : (state g im (next g page) ≡ Closed) ⊎ (next g page ≡ page)
-  pub live : anyLive (pageWalk g im (next g page) .heads) ≡ true
 
 -- a whole call's answer, and the list r that it leaves of the list q, "as a plain first-in-first-out list does, apart from the refusals
 -- laid down"; buf is the buffer afterwards. Peek and pop say what they met on their way: nothing but what they go past, or first a live

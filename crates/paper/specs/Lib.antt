@@ -5,6 +5,10 @@ pub mod Slip
 pub mod Scan
 pub mod Pages
 pub mod Refusals
+pub mod Steps
+pub mod Push
+pub mod Search
+pub mod Counts
 pub mod Calls
 pub mod Waiting
 pub mod Ways

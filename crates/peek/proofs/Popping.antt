@@ -9,7 +9,7 @@ use Rattle.paper.specs.declared.Geometry.{Geometry}
 use Rattle.paper.specs.Chip.{Plan, plan, bind}
 use Rattle.paper.specs.Slip.{encode}
 use Rattle.paper.specs.Refusals.{Answer}
-use Rattle.paper.specs.Calls.{Outcome, nothing, short, this, spoilt, shownBy, popped}
+use Rattle.paper.specs.Search.{Outcome, nothing, short, this, spoilt, shownBy, popped}
 use Rattle.chip.specs.declared.Budget.{Budget}
 use Rattle.chip.specs.Run.{Showed, WholeShown, under, unlessCut}
 use Rattle.chip.proofs.Quiet.{copyCount, acted-quiet, writes-quiet}

@@ -6,7 +6,7 @@ use Prim.Native.Nat.{ℕ}
 use Rattle.paper.specs.declared.Geometry.{Geometry}
 use Rattle.paper.specs.declared.Shown.{Shown}
 use Rattle.paper.specs.Refusals.{shownAs}
-use Rattle.paper.specs.Calls.{shownBy, popped}
+use Rattle.paper.specs.Search.{shownBy, popped}
 use Rattle.chip.specs.Run.{Did, unlessCut}
 use Rattle.search.specs.declared.Searched.{Searched}
 use Rattle.search.specs.Meanings.{foundAs}

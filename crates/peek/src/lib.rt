@@ -1,7 +1,7 @@
 // Peek and pop: what the two calls make of what the search finds. Names and order are those of the Rust's src/queue/mod.rs.
 ghost use lib.ListN.{length};
 ghost use Rattle.paper.specs.Refusals.{shownAs};
-ghost use Rattle.paper.specs.Calls as calls;
+ghost use Rattle.paper.specs.Search as plans;
 ghost use Rattle.chip.specs.Within.{Within};
 ghost use Rattle.chip.specs.Run.{WholeShown, under};
 ghost use Rattle.search.specs.Meanings.{FoundIn};
@@ -18,14 +18,14 @@ use search::Searched;
 // Peek stores too: repairs, and the erases of pages that it left because nothing in them is present.
 pub fn peek(image: &mut [u8], buffer: &mut [u8], b: Budget, g: Geometry) -> Shown
     requires { ⌜ Within g (length (now image)) ⌝ }
-    ensures { λ r. ⌜ WholeShown g (under b (calls.peek g (now (image .entry)) (length (now (buffer .entry))))) (now (image .entry)) (now (image .exit)) (now (buffer .entry)) (now (buffer .exit)) (shownAs r) ⌝ }
+    ensures { λ r. ⌜ WholeShown g (under b (plans.peek g (now (image .entry)) (length (now (buffer .entry))))) (now (image .entry)) (now (image .exit)) (now (buffer .entry)) (now (buffer .exit)) (shownAs r) ⌝ }
 {
     shown_by(search::search(image, buffer, b, g))
 }
 
 pub fn pop(image: &mut [u8], buffer: &mut [u8], b: Budget, g: Geometry) -> Shown
     requires { ⌜ Within g (length (now image)) ⌝ }
-    ensures { λ r. ⌜ WholeShown g (under b (calls.pop g (now (image .entry)) (length (now (buffer .entry))))) (now (image .entry)) (now (image .exit)) (now (buffer .entry)) (now (buffer .exit)) (shownAs r) ⌝ }
+    ensures { λ r. ⌜ WholeShown g (under b (plans.pop g (now (image .entry)) (length (now (buffer .entry))))) (now (image .entry)) (now (image .exit)) (now (buffer .entry)) (now (buffer .exit)) (shownAs r) ⌝ }
 {
     let searched = search::search(image, buffer, b, g);
     shown_by(pop_found(image, g, searched))

@@ -9,7 +9,7 @@ use lib.Dec.{ltb}
 use Rattle.paper.specs.declared.Geometry.{Geometry}
 use Rattle.paper.specs.Chip.{headerSize, pageStart, dataStart, dataSize}
 use Rattle.paper.specs.Refusals.{lengthLimit}
-use Rattle.paper.specs.Calls.{tooBig}
+use Rattle.paper.specs.Push.{tooBig}
 use Rattle.laws.proofs.Places.{page-in, data-whole}
 use Rattle.chip.specs.Within.{Within}
 use Rattle.chip.proofs.Geometry.{data-in, item-fits}

@@ -12,7 +12,7 @@ use Rattle.paper.specs.declared.PageState.the-variants.{Open, PartialOpen, Clos
 use Rattle.paper.specs.Chip.{pageStart, dataStart, dataEnd, Plan, Try, gives}
 use Rattle.paper.specs.Scan.{pageWalk, freeSpot, anyLive}
 use Rattle.paper.specs.Pages.{state, next}
-use Rattle.paper.specs.Calls.{Spot, at, tooBig, takePage, turnPage, findSpot}
+use Rattle.paper.specs.Push.{Spot, at, tooBig, takePage, turnPage, findSpot}
 use Rattle.laws.proofs.Places.{page-in}
 use Rattle.chip.specs.declared.Address.{Address}
 use Rattle.chip.specs.declared.Budget.{Budget}

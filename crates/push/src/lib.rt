@@ -10,8 +10,8 @@ ghost use Rattle.paper.specs.Chip.{erasePage, bind, gives};
 ghost use Rattle.paper.specs.Scan.{pageWalk, anyLive};
 ghost use Rattle.paper.specs.Pages.{state, setStart, setEnd, next};
 ghost use Rattle.paper.specs.Refusals.{done, pushedAs};
-ghost use Rattle.paper.specs.Calls.{tooBig, takePage, turnPage, findSpot, spotOn, spotStep, spotFor, pushAt};
-ghost use Rattle.paper.specs.Calls as calls;
+ghost use Rattle.paper.specs.Push.{tooBig, takePage, turnPage, findSpot, spotOn, spotStep, spotFor, pushAt};
+ghost use Rattle.paper.specs.Push as plans;
 ghost use Rattle.chip.specs.Within.{Good, Within};
 ghost use Rattle.chip.specs.Run.{Did, Ran, Whole, under, unlessCut};
 ghost use Rattle.push.specs.Trying.{triedAs, Finds};
@@ -47,7 +47,7 @@ const LENGTH_LIMIT: usize = 65535;
 
 pub fn push(image: &mut [u8], b: Budget, g: Geometry, slip: &[u8], over: bool) -> Pushed
     requires { ⌜ Within g (length (now image)) ⌝ }
-    ensures { λ r. ⌜ Whole g (under b (calls.push g (now (image .entry)) (now (slip .entry)) over)) (now (image .entry)) (now (image .exit)) (pushedAs r) ⌝ }
+    ensures { λ r. ⌜ Whole g (under b (plans.push g (now (image .entry)) (now (slip .entry)) over)) (now (image .entry)) (now (image .exit)) (pushedAs r) ⌝ }
 {
     if is_too_big(g, slip.len()) {
         return Pushed::Refused(Refusal::ItemTooBig);

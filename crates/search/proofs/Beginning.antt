@@ -6,7 +6,8 @@ use Prim.Native.Nat.{ℕ}
 use Rattle.paper.specs.declared.Geometry.{Geometry}
 use Rattle.paper.specs.Chip.{Plan, Try, fails, gives}
 use Rattle.paper.specs.Pages.{oldest, repair}
-use Rattle.paper.specs.Calls.{startStep, withRepair}
+use Rattle.paper.specs.Steps.{withRepair}
+use Rattle.paper.specs.Search.{startStep}
 use Rattle.chip.specs.declared.Budget.{Budget}
 use Rattle.chip.specs.declared.Spent.{Spent}
 use Rattle.chip.specs.Run.{Did, Showed}

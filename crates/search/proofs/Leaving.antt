@@ -9,7 +9,7 @@ use Rattle.paper.specs.declared.PageState.{PageState}
 use Rattle.paper.specs.declared.PageState.the-variants.{Open, Corrupted}
 use Rattle.paper.specs.Chip.{dataStart, erasePage, plan, fails, gives}
 use Rattle.paper.specs.Pages.{state, same, next}
-use Rattle.paper.specs.Calls.{fromAddress, afterPage, nothing}
+use Rattle.paper.specs.Search.{fromAddress, afterPage, nothing}
 use Rattle.chip.specs.declared.Budget.{Budget}
 use Rattle.chip.specs.declared.Spent.{Spent}
 use Rattle.chip.specs.Run.{Did}

@@ -10,7 +10,7 @@ use lib.ListN.{length}
 use Rattle.paper.specs.declared.Geometry.{Geometry}
 use Rattle.paper.specs.Chip.{copy, roundUp, headerSize, dataEnd, pageOf, storeCount, Plan}
 use Rattle.paper.specs.Scan.{Head, walkOn, live, present}
-use Rattle.paper.specs.Calls.{Met, passed, long, met, readHeads}
+use Rattle.paper.specs.Search.{Met, passed, long, met, readHeads}
 use Rattle.chip.specs.declared.Budget.{Budget}
 use Rattle.chip.specs.Within.{addressLimit}
 use Rattle.chip.specs.Run.{Acted}

@@ -11,7 +11,7 @@ use Rattle.paper.specs.declared.PageState.the-variants.{Open, Corrupted}
 use Rattle.paper.specs.Chip.{dataStart, pageOf, Event, erasePage, Plan, plan, bind, andThen, Try, fails, gives}
 use Rattle.paper.specs.Scan.{walkOn}
 use Rattle.paper.specs.Pages.{state, same, next}
-use Rattle.paper.specs.Calls.{Met, passed, long, met, readHeads, Stand, fromAddress, afterPage, Outcome, nothing, onMet, readPage, leavePage, nextItem}
+use Rattle.paper.specs.Search.{Met, passed, long, met, readHeads, Stand, fromAddress, afterPage, Outcome, nothing, onMet, readPage, leavePage, nextItem}
 use Rattle.chip.specs.declared.Budget.{Budget}
 use Rattle.chip.specs.declared.Spent.{Spent}
 use Rattle.chip.specs.Run.{Showed}

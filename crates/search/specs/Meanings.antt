@@ -5,8 +5,8 @@ use Prim.Native.Nat.{ℕ, _≤_, _<_}
 use Rattle.paper.specs.declared.Geometry.{Geometry}
 use Rattle.paper.specs.Chip.{pageStart, dataEnd, pageOf, Try, fails, gives, settled}
 use Rattle.paper.specs.Scan.{Head}
-use Rattle.paper.specs.Calls.{passed, long, fromAddress, afterPage, Outcome, nothing, short, this, spoilt}
-use Rattle.paper.specs.Calls as calls
+use Rattle.paper.specs.Search.{passed, long, fromAddress, afterPage, Outcome, nothing, short, this, spoilt}
+use Rattle.paper.specs.Search as plans
 use Rattle.item.specs.declared.Item.{Item}
 use Rattle.item.specs.Places.{Room}
 use Rattle.item.specs.Reading.{headAt}
@@ -34,17 +34,17 @@ ItemIn g n x = Room g n (x .address .0) (x .header .length)
 
 -- ---- what answers stand for
 
-abbrev pub standAs : NextAddress → calls.Stand
+abbrev pub standAs : NextAddress → plans.Stand
 standAs (stand.Address a) = fromAddress (a .0)
 standAs (stand.PageAfter p) = afterPage (p .0)
 
-abbrev pub metAs : Geometry → List ℕ → Met → calls.Met
+abbrev pub metAs : Geometry → List ℕ → Met → plans.Met
 metAs g im met.Passed = passed
 metAs g im (met.TooSmall n) = long n
-metAs g im (met.Present x) = calls.met (headOf g im x)
+metAs g im (met.Present x) = plans.met (headOf g im x)
 
 -- as the answer of a step
-abbrev pub triedAs : Geometry → List ℕ → Found → Try calls.Stand Outcome
+abbrev pub triedAs : Geometry → List ℕ → Found → Try plans.Stand Outcome
 triedAs g im found.Nothing = gives nothing
 triedAs g im (found.TooSmall n) = gives (short n)
 triedAs g im (found.Present x) = gives (this (headOf g im x))

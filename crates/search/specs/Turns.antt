@@ -8,7 +8,7 @@ use Rattle.paper.specs.declared.PageState.the-variants.{Open, Corrupted}
 use Rattle.paper.specs.Chip.{dataStart, pageOf, erasePage, Plan, plan, bind, Try, fails, gives}
 use Rattle.paper.specs.Scan.{walkOn}
 use Rattle.paper.specs.Pages.{state, same, next}
-use Rattle.paper.specs.Calls.{Met, passed, long, met, readHeads, Stand, fromAddress, afterPage, Outcome, nothing, short, this}
+use Rattle.paper.specs.Search.{Met, passed, long, met, readHeads, Stand, fromAddress, afterPage, Outcome, nothing, short, this}
 
 -- what a turn comes to
 pub data Going : Type 0 where

@@ -4,8 +4,9 @@ ghost use mathlib.Core.Path.{_≡_};
 ghost use Prim.Native.Nat.{_<_};
 ghost use lib.ListN.{length};
 ghost use Rattle.paper.specs.Pages.{oldest};
-ghost use Rattle.paper.specs.Calls.{readHeads, nextStep, startStep, withRepair};
-ghost use Rattle.paper.specs.Calls as calls;
+ghost use Rattle.paper.specs.Steps.{withRepair};
+ghost use Rattle.paper.specs.Search.{readHeads, nextStep, startStep};
+ghost use Rattle.paper.specs.Search as plans;
 ghost use Rattle.chip.specs.Within.{Within};
 ghost use Rattle.item.specs.Places.{Inside};
 ghost use Rattle.item.specs.Scanning.{walkFrom};
@@ -74,7 +75,7 @@ pub struct Searched {
 // It begins with the oldest page's first item and ends at a present one: the pages that it leaves have none, so it clears them.
 pub fn search(image: &mut [u8], buffer: &mut [u8], b: Budget, g: Geometry) -> Searched
     requires { ⌜ Within g (length (now image)) ⌝ }
-    ensures { λ r. ⌜ ComesTo (foundAs g) (FoundIn g) g b (calls.search g (now (image .entry)) (length (now (buffer .entry)))) (now (image .entry)) (now (image .exit)) (now (buffer .entry)) (now (buffer .exit)) (r .spent) (r .found) ⌝ }
+    ensures { λ r. ⌜ ComesTo (foundAs g) (FoundIn g) g b (plans.search g (now (image .entry)) (length (now (buffer .entry)))) (now (image .entry)) (now (image .exit)) (now (buffer .entry)) (now (buffer .exit)) (r .spent) (r .found) ⌝ }
 {
     let starting = find_start(image, b, g);
     let spent = starting.spent;

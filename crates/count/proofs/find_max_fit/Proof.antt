@@ -1,6 +1,6 @@
 -- `count::find_max_fit` meets its contract: what the count with its repair came to, in the words of its answer. Assumes nothing.
 use borrow.Author.Needs.{needs}
-use Rattle.paper.specs.Calls.{findMaxFit}
+use Rattle.paper.specs.Counts.{findMaxFit}
 use Rattle.chip.proofs.Limiting.{ran-under}
 use Rattle.count.proofs.find_max_fit.Statement.{statement}
 use Rattle.count.proofs.find_max_fit.Tie as tie

@@ -1,7 +1,7 @@
 -- `count::find_max_fit_inner` meets its contract. Each arm goes on with what the search for the youngest page answered. Assumes nothing.
 use borrow.Author.Needs.{needs}
 use mathlib.Core.Path.{ap}
-use Rattle.paper.specs.Calls.{fit}
+use Rattle.paper.specs.Counts.{fit}
 use Rattle.page.proofs.Searching.{seen}
 use Rattle.page.specs.Searches.{chosenAs}
 use Rattle.count.proofs.find_max_fit_inner.Statement.{statement}

@@ -3,7 +3,7 @@ use borrow.Author.Needs.{needs}
 use native.Mathlib.Omega.{arith}
 use mathlib.Core.Path.{sym, _∙_}
 use Rattle.paper.specs.declared.PageState.the-variants.{Open, PartialOpen, Corrupted}
-use Rattle.paper.specs.Calls.{fitBy}
+use Rattle.paper.specs.Counts.{fitBy}
 use Rattle.count.proofs.Fits.{fit-by, fit-next, fit-here}
 use Rattle.count.proofs.fit_from.Statement.{statement}
 use Rattle.count.proofs.fit_from.Tie as tie

@@ -1,7 +1,7 @@
 -- `count::space_left` meets its contract: what the count with its repair came to, in the words of its answer, which is never none. Assumes nothing.
 use borrow.Author.Needs.{needs}
 use mathlib.Core.Path.{sym, _∙_}
-use Rattle.paper.specs.Calls.{spaceLeft}
+use Rattle.paper.specs.Counts.{spaceLeft}
 use Rattle.chip.proofs.Limiting.{ran-under}
 use Rattle.count.proofs.Retries.{left-some}
 use Rattle.count.proofs.space_left.Statement.{statement}

@@ -4,7 +4,7 @@ use mathlib.Core.Path.{_≡_, sym, ap, _∙_}
 use Prim.Native.Nat.{_-_, _*_, _≤_}
 use Rattle.paper.specs.declared.PageState.the-variants.{Corrupted}
 use Rattle.paper.specs.Pages.{same, around, allPages}
-use Rattle.paper.specs.Calls.{spaceBy, spaceOf, space}
+use Rattle.paper.specs.Counts.{spaceBy, spaceOf, space}
 use Rattle.chip.specs.Within.{addressLimit}
 use Rattle.count.proofs.Spaces.{plus, sum-first, sum-next, sum-fails, sum-last}
 use Rattle.count.proofs.space_left_inner.Statement.{statement}

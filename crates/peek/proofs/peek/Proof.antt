@@ -1,7 +1,7 @@
 -- `peek::peek` meets its contract: what the search comes to is shown. Assumes nothing.
 use borrow.Author.Needs.{needs}
-use Rattle.paper.specs.Calls.{shownBy}
-use Rattle.paper.specs.Calls as calls
+use Rattle.paper.specs.Search.{shownBy}
+use Rattle.paper.specs.Search as plans
 use Rattle.chip.proofs.Binding.{showed-turned}
 use Rattle.chip.proofs.Limiting.{showed-under}
 use Rattle.peek.proofs.peek.Statement.{statement}
@@ -22,7 +22,7 @@ same-length-2 : tie.Need-same-length-2
 same-length-2 c = search needs
 
 returns : tie.Need-returns
-unfolding calls.peek
+unfolding plans.peek
 returns c =
     let args = c .before .before .before .before .before .before .before .before .before .before .args in
     let the-search = c .before .before .before .before .before .search in

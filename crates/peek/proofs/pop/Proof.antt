@@ -1,6 +1,6 @@
 -- `peek::pop` meets its contract: the item that the search found is stored as popped, where one was found. Assumes nothing.
 use borrow.Author.Needs.{needs}
-use Rattle.paper.specs.Calls as calls
+use Rattle.paper.specs.Search as plans
 use Rattle.peek.proofs.Popping.{search-popped}
 use Rattle.peek.proofs.pop.Statement.{statement}
 use Rattle.peek.proofs.pop.Tie as tie
@@ -23,7 +23,7 @@ same-length-2 : tie.Need-same-length-2
 same-length-2 c = search needs
 
 returns : tie.Need-returns
-unfolding calls.pop
+unfolding plans.pop
 returns c =
     let args = c .before .before .before .before .before .before .before .before .before .before .before .before .before .before .args in
     let the-search = c .before .before .before .before .before .before .before .before .before .search in

@@ -1,7 +1,7 @@
 -- `push::push` meets its contract. A slip that is too big is refused, and any other goes to `push_inner`. Assumes nothing.
 use borrow.Author.Needs.{needs}
 use mathlib.Core.Path.{refl, sym, _∙_}
-use Rattle.paper.specs.Calls.{push}
+use Rattle.paper.specs.Push.{push}
 use Rattle.chip.proofs.Binding.{ran-none}
 use Rattle.chip.proofs.Limiting.{under-done}
 use Rattle.push.proofs.push.Statement.{statement}

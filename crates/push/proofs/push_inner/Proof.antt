@@ -1,7 +1,7 @@
 -- `push::push_inner` meets its contract. The run of the search, and then by its answer a refusal or the run of the item's stores. Assumes nothing.
 use borrow.Author.Needs.{needs}
 use Rattle.paper.specs.Refusals.{done}
-use Rattle.paper.specs.Calls.{at, pushAt}
+use Rattle.paper.specs.Push.{at, pushAt}
 use Rattle.chip.proofs.Binding.{ran-plan, bind-cut, bind-then, bind-ends}
 use Rattle.chip.proofs.Limiting.{under-cut, under-done, ran-under}
 use Rattle.push.proofs.Sizes.{small-length}

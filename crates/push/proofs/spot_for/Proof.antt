@@ -1,7 +1,7 @@
 -- `push::spot_for` meets its contract. The step's run, and where it failed the runs of the repair and of the step once more. Assumes nothing.
 use borrow.Author.Needs.{needs}
 use mathlib.Core.Path.{ap, _∙_}
-use Rattle.paper.specs.Calls.{full, spotStep, spotFor}
+use Rattle.paper.specs.Push.{full, spotStep, spotFor}
 use Rattle.chip.proofs.Repairing.{repair-cut, repair-gives, repair-stops, repair-again}
 use Rattle.push.specs.Trying.{triedAs}
 use Rattle.push.proofs.spot_for.Statement.{statement}

@@ -1,6 +1,6 @@
 -- `push::spot_on` meets its contract. The run of the mark, and then that of the search on the image which it leaves. Assumes nothing.
 use borrow.Author.Needs.{needs}
-use Rattle.paper.specs.Calls.{findSpot, spotOn}
+use Rattle.paper.specs.Push.{findSpot, spotOn}
 use Rattle.chip.proofs.Binding.{and-cut, and-then}
 use Rattle.push.proofs.spot_on.Statement.{statement}
 use Rattle.push.proofs.spot_on.Tie as tie

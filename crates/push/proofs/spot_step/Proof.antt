@@ -1,7 +1,7 @@
 -- `push::spot_step` meets its contract. The search over the table of states is the search over the image. Assumes nothing.
 use borrow.Author.Needs.{needs}
 use mathlib.Core.Path.{ap}
-use Rattle.paper.specs.Calls.{spotOn, spotStep}
+use Rattle.paper.specs.Push.{spotOn, spotStep}
 use Rattle.chip.proofs.Binding.{ran-none}
 use Rattle.page.specs.Searches.{chosenAs}
 use Rattle.page.proofs.Searching.{seen}

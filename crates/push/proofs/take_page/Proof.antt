@@ -2,7 +2,7 @@
 use borrow.Author.Needs.{needs}
 use native.Mathlib.Omega.{arith}
 use mathlib.Core.Path.{sym, _∙_}
-use Rattle.paper.specs.Calls.{takePage}
+use Rattle.paper.specs.Push.{takePage}
 use Rattle.chip.proofs.Binding.{ran-plan, ran-none}
 use Rattle.push.proofs.take_page.Statement.{statement}
 use Rattle.push.proofs.take_page.Tie as tie

@@ -3,7 +3,7 @@ use borrow.Author.Needs.{needs}
 use native.Mathlib.Omega.{arith}
 use borrow.Author.Tests.{eq-eqb, ne-eqb}
 use mathlib.Core.Path.{sym, _∙_}
-use Rattle.paper.specs.Calls.{turnPage}
+use Rattle.paper.specs.Push.{turnPage}
 use Rattle.chip.proofs.Binding.{ran-plan, ran-none}
 use Rattle.push.proofs.turn_page.Statement.{statement}
 use Rattle.push.proofs.turn_page.Tie as tie

@@ -1,7 +1,7 @@
 -- `search::next` meets its contract: one run, or two with a repair between them. Assumes nothing.
 use borrow.Author.Needs.{needs}
 use mathlib.Core.Path.{ap}
-use Rattle.paper.specs.Calls.{nextStep}
+use Rattle.paper.specs.Search.{nextStep}
 use Rattle.chip.proofs.Repairing.{showed-repair-cut, showed-repair-gives, showed-repair-stops, showed-repair-again}
 use Rattle.search.specs.Meanings.{triedAs}
 use Rattle.search.proofs.OtherCases.{not-failed}

@@ -7,7 +7,7 @@ use mathlib.Core.List.{List}
 use Prim.Native.Nat.{ℕ}
 use lib.ListN.{length}
 use Rattle.paper.specs.Chip.{Try}
-use Rattle.paper.specs.Calls.{Stand, Outcome, nextStep, nextItem}
+use Rattle.paper.specs.Search.{Stand, Outcome, nextStep, nextItem}
 use Rattle.chip.specs.declared.Spent.{Spent}
 use Rattle.chip.specs.Run.{Showed}
 use Rattle.search.specs.Meanings.{standAs, turnAs, StandIn}

@@ -5,7 +5,7 @@ use mathlib.Core.Path.{_≡_, refl, _∙_}
 use mathlib.Core.List.{List}
 use Prim.Native.Nat.{ℕ, _-_, _<_}
 use lib.ListN.{length}
-use Rattle.paper.specs.Calls.{Met}
+use Rattle.paper.specs.Search.{Met}
 use Rattle.chip.specs.Within.{addressLimit}
 use Rattle.item.specs.Places.{Inside}
 use Rattle.item.proofs.Live.{reaches-of, none-of}

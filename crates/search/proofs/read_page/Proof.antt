@@ -1,7 +1,7 @@
 -- `search::read_page` meets its contract: the items from the address on are those of what is left of its page's data. Assumes nothing.
 use borrow.Author.Needs.{needs}
 use mathlib.Core.Path.{ap}
-use Rattle.paper.specs.Calls.{passed, long, met}
+use Rattle.paper.specs.Search.{passed, long, met}
 use Rattle.search.specs.Meanings.{metAs}
 use Rattle.search.proofs.ReadingItems.{page-read}
 use Rattle.search.proofs.Standing.{left-inside}

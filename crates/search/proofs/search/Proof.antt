@@ -2,8 +2,8 @@
 use borrow.Author.Needs.{needs}
 use mathlib.Core.Path.{ap}
 use Rattle.paper.specs.Chip.{settled}
-use Rattle.paper.specs.Calls.{searchOn, spoilt}
-use Rattle.paper.specs.Calls as calls
+use Rattle.paper.specs.Search.{searchOn, spoilt}
+use Rattle.paper.specs.Search as plans
 use Rattle.chip.proofs.Binding.{showed-bind-cut, showed-bind-then, showed-turned, showed-kept}
 use Rattle.page.specs.Searches.{chosenAs}
 use Rattle.search.proofs.Standing.{start-readable}
@@ -19,7 +19,7 @@ same-length : tie.Need-same-length
 same-length c = search needs
 
 returns : tie.Need-returns
-unfolding calls.search
+unfolding plans.search
 returns c =
     let args = c .before .before .before .before .before .before .before .before .args in
     let find-start = c .before .before .before .before .find-start in
@@ -51,7 +51,7 @@ same-length-2 : tie.Need-same-length-2
 same-length-2 c = search needs
 
 returns-2 : tie.Need-returns-2
-unfolding calls.search searchOn
+unfolding plans.search searchOn
 returns-2 c =
     let args = c .before .before .before .before .before .before .before .before .before .before .args in
     let find-start = c .before .before .before .before .before .before .find-start in
@@ -69,7 +69,7 @@ same-length-4 : tie.Need-same-length-4
 same-length-4 c = search needs
 
 returns-3 : tie.Need-returns-3
-unfolding calls.search searchOn
+unfolding plans.search searchOn
 returns-3 c =
     let args = c .before .before .before .before .before .before .before .before .before .before .before .before .before .before .before .before .before .before
     .before .args in

@@ -3,7 +3,7 @@ use borrow.Author.Needs.{needs}
 use native.Mathlib.Omega.{arith}
 use Prim.Native.Nat.{_+_}
 use Rattle.paper.specs.Chip.{headerSize, writes}
-use Rattle.paper.specs.Calls.{itemAt}
+use Rattle.paper.specs.Push.{itemAt}
 use Rattle.checksum.proofs.Answers.{data-is}
 use Rattle.chip.proofs.Running.{did-then, did-cut}
 use Rattle.item.proofs.Item.write_new.Statement.{statement}

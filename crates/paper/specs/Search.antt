@@ -1,0 +1,109 @@
+-- Peek and pop, as plans: the search that they share, and what each makes of what it comes to. Assumes nothing.
+use mathlib.Core.Bool.{Bool, true, cond, _||_, not}
+use mathlib.Core.List.{List, [], _∷_}
+use Prim.Native.Nat.{ℕ, zero, suc, _+_, _*_}
+use lib.Dec.{eqb, ltb}
+use Rattle.paper.specs.declared.Refusal.the-variants as refusal
+use Rattle.paper.specs.Chip.{Geometry, roundUp, headerSize, dataStart, pageOf, Event, copy, writes, erasePage, Plan, plan, bind, andThen, Try, fails, gives, settled}
+use Rattle.paper.specs.Slip.{encode}
+use Rattle.paper.specs.Scan.{Head, walkOn, live, present}
+use Rattle.paper.specs.Pages.{Open, Corrupted, state, same, next, oldest}
+use Rattle.paper.specs.Refusals.{Answer, shown, empty, refused}
+use Rattle.paper.specs.Steps.{withRepair}
+
+-- ---- on a page
+
+-- what going through a page's headers comes to: all passed; one too long for the buffer, by its rounded length; a present one
+pub data Met : Type 0 where
+  passed : Met
+  long : ℕ → Met
+  met : Head → Met
+
+-- "Peek and pop copy the rounded payload of each live header read, in order, to the buffer's front, torn ones too"; a live header whose
+-- rounded length is over the buffer's size n ends it
+unfoldable pub readHeads : Geometry → ℕ → List Head → List ℕ → Plan Met
+readHeads g n [] im = plan [] passed
+readHeads g n (h ∷ hs) im =
+    let size = roundUp (g .word) (h .len) in
+    let read = copy (h .place + headerSize g) size ∷ [] in
+    let later = andThen g im read (readHeads g n hs) in
+    let skipped = readHeads g n hs im in
+    cond (not (live h)) skipped
+    (cond (ltb n size) (plan [] (long size))
+    (cond (present h) (plan read (met h)) later))
+
+-- ---- from a stand on
+
+-- where a search stands: at an address, from which it reads on; or leaving a page
+pub data Stand : Type 0 where
+  fromAddress : ℕ → Stand
+  afterPage : ℕ → Stand
+
+-- what a search comes to: no present item, a live header too long for the buffer, a present item, or Corrupted
+pub data Outcome : Type 0 where
+  nothing : Outcome
+  short : ℕ → Outcome
+  this : Head → Outcome
+  spoilt : Outcome
+
+unfoldable pub onMet : (List ℕ → Plan (Try Stand Outcome)) → Met → List ℕ → Plan (Try Stand Outcome)
+onMet further passed im = further im
+onMet further (long n) im = plan [] (gives (short n))
+onMet further (met h) im = plan [] (gives (this h))
+
+-- "skip popped and torn items", from address a on
+unfoldable pub readPage : Geometry → ℕ → ℕ → (List ℕ → Plan (Try Stand Outcome)) → List ℕ → Plan (Try Stand Outcome)
+readPage g n a further im = bind g im (readHeads g n (walkOn g im a .heads) im) (onMet further)
+
+-- "Leaving a page, stop if the next page is Open or is the oldest; otherwise erase the page just left", if clears says so
+unfoldable pub leavePage : Geometry → ℕ → Bool → ℕ → (List ℕ → Plan (Try Stand Outcome)) → List ℕ → Plan (Try Stand Outcome)
+leavePage g old clears p further im =
+    let s = state g im (next g p) in
+    let onward = andThen g im (cond clears (erasePage g p) []) further in
+    cond (same s Corrupted) (plan [] (fails (afterPage p)))
+    (cond (same s Open || eqb (next g p) old) (plan [] (gives nothing)) onward)
+
+-- the next present item from a stand; two turns for each page are enough, since the search ends before it is back at the oldest page
+unfoldable pub nextItem : Geometry → ℕ → ℕ → Bool → ℕ → Stand → List ℕ → Plan (Try Stand Outcome)
+nextItem g n old clears zero stand im = plan [] (gives nothing)
+nextItem g n old clears (suc k) (fromAddress a) im = readPage g n a (nextItem g n old clears k (afterPage (pageOf g a))) im
+nextItem g n old clears (suc k) (afterPage p) im = leavePage g old clears p (nextItem g n old clears k (fromAddress (dataStart g (next g p)))) im
+
+unfoldable pub nextStep : Geometry → ℕ → ℕ → Bool → Stand → List ℕ → Plan (Try Stand Outcome)
+nextStep g n old clears stand im = nextItem g n old clears (2 * g .pages) stand im
+
+-- ---- the search
+
+-- "Peek and pop have two: finding the start, and finding the next item from where it stood."
+unfoldable pub startStep : Geometry → Unit {0} → List ℕ → Plan (Try Unit ℕ)
+startStep g u im = plan [] (oldest g im)
+
+unfoldable pub searchOn : Geometry → ℕ → Try Unit ℕ → List ℕ → Plan Outcome
+searchOn g n (fails u) im = plan [] spoilt
+searchOn g n (gives old) im =
+    bind g im (withRepair g (nextStep g n old true) (fromAddress (dataStart g old)) im) (λ t im₁. plan [] (settled spoilt t))
+
+-- n is the buffer's size
+unfoldable pub search : Geometry → List ℕ → ℕ → Plan Outcome
+search g im n = bind g im (withRepair g (startStep g) tt im) (searchOn g n)
+
+-- ---- peek and pop
+
+abbrev pub shownBy : Outcome → Answer
+shownBy nothing = empty
+shownBy (short n) = refused (refusal.BufferTooSmall n)
+shownBy (this h) = shown (h .len)
+shownBy spoilt = refused refusal.Corrupted
+
+-- "Pop stores the header again with CRC 0."
+abbrev pub popped : Geometry → Outcome → List Event
+popped g nothing = []
+popped g (short n) = []
+popped g (this h) = writes g (h .place) (encode g 0 (h .len))
+popped g spoilt = []
+
+unfoldable pub peek : Geometry → List ℕ → ℕ → Plan Answer
+peek g im n = bind g im (search g im n) (λ o im₁. plan [] (shownBy o))
+
+unfoldable pub pop : Geometry → List ℕ → ℕ → Plan Answer
+pop g im n = bind g im (search g im n) (λ o im₁. plan (popped g o) (shownBy o))
