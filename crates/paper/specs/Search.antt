@@ -15,7 +15,7 @@ use Rattle.paper.specs.Steps.{withRepair}
 
 -- the address behind an item
 unfoldable pub itemEnd : Geometry → Head → ℕ
-itemEnd g h = h .place + (headerSize g + roundUp (g .word) (h .len))
+itemEnd g h = h .place + headerSize g + roundUp (g .word) (h .len)
 
 -- what going through a page's headers comes to: all passed; one too long for the buffer, with the address from which it was looked for and
 -- its rounded length; a present one
@@ -44,9 +44,9 @@ pub data Stand : Type 0 where
   fromAddress : ℕ → Stand
   afterPage : ℕ → Stand
 
--- behind an item of page p
-unfoldable pub standBehind : Geometry → ℕ → Head → Stand
-standBehind g p h = cond (ltb (itemEnd g h) (dataEnd g p)) (fromAddress (itemEnd g h)) (afterPage p)
+-- at address a, or leaving page p where its data has ended there
+unfoldable pub standAt : Geometry → ℕ → ℕ → Stand
+standAt g p a = cond (ltb a (dataEnd g p)) (fromAddress a) (afterPage p)
 
 -- what a search comes to: no present item, a live header too long for the buffer, a present item, or Corrupted
 pub data Outcome : Type 0 where
@@ -66,7 +66,7 @@ endsAt s o = plan [] (gives (record { stand = s; outcome = o }))
 unfoldable pub onMet : Geometry → ℕ → (List ℕ → Plan (Try Stand Ended)) → Met → List ℕ → Plan (Try Stand Ended)
 onMet g p further passed im = further im
 onMet g p further (long a n) im = endsAt (fromAddress a) (short n)
-onMet g p further (met h) im = endsAt (standBehind g p h) (this h)
+onMet g p further (met h) im = endsAt (standAt g p (itemEnd g h)) (this h)
 
 -- "skip popped and torn items", from address a on
 unfoldable pub readPage : Geometry → ℕ → ℕ → (List ℕ → Plan (Try Stand Ended)) → List ℕ → Plan (Try Stand Ended)

@@ -3,9 +3,9 @@ use mathlib.Core.Path.{_≡_}
 use mathlib.Core.List.{List}
 use Prim.Native.Nat.{ℕ, _≤_, _<_}
 use Rattle.paper.specs.declared.Geometry.{Geometry}
-use Rattle.paper.specs.Chip.{pageStart, dataEnd, pageOf, Try, fails, gives, settled}
+use Rattle.paper.specs.Chip.{pageStart, dataEnd, pageOf, Try, fails, gives}
 use Rattle.paper.specs.Scan.{Head}
-use Rattle.paper.specs.Search.{passed, long, fromAddress, afterPage, Outcome, nothing, short, this, spoilt}
+use Rattle.paper.specs.Search.{passed, long, fromAddress, afterPage, Outcome, nothing, short, this, spoilt, outcomeOf}
 use Rattle.paper.specs.Search as plans
 use Rattle.item.specs.declared.Item.{Item}
 use Rattle.item.specs.Places.{Room}
@@ -16,6 +16,8 @@ use Rattle.search.specs.declared.NextAddress.{NextAddress}
 use Rattle.search.specs.declared.NextAddress.the-variants as stand
 use Rattle.search.specs.declared.Met.{Met}
 use Rattle.search.specs.declared.Met.the-variants as met
+use Rattle.search.specs.declared.Ended.{Ended}
+use Rattle.search.specs.declared.Ended.the-variants as ended
 use Rattle.search.specs.declared.Found.{Found}
 use Rattle.search.specs.declared.Found.the-variants as found
 use Rattle.search.specs.declared.Turn.{Turn}
@@ -40,24 +42,26 @@ standAs (stand.PageAfter p) = afterPage (p .0)
 
 abbrev pub metAs : Geometry → List ℕ → Met → plans.Met
 metAs g im met.Passed = passed
-metAs g im (met.TooSmall n) = long n
+metAs g im (met.TooSmall a n) = long (a .0) n
 metAs g im (met.Present x) = plans.met (headOf g im x)
 
 -- as the answer of a step
-abbrev pub triedAs : Geometry → List ℕ → Found → Try plans.Stand Outcome
-triedAs g im found.Nothing = gives nothing
-triedAs g im (found.TooSmall n) = gives (short n)
-triedAs g im (found.Present x) = gives (this (headOf g im x))
-triedAs g im found.Corrupted = gives spoilt
-triedAs g im (found.Failed s) = fails (standAs s)
+abbrev pub endedAs : Geometry → List ℕ → Ended → Try plans.Stand plans.Ended
+endedAs g im (ended.Nothing s) = gives (record { stand = standAs s; outcome = nothing })
+endedAs g im (ended.TooSmall s n) = gives (record { stand = standAs s; outcome = short n })
+endedAs g im (ended.Present s x) = gives (record { stand = standAs s; outcome = this (headOf g im x) })
+endedAs g im (ended.Failed s) = fails (standAs s)
 
 -- as that of the search
 abbrev pub foundAs : Geometry → List ℕ → Found → Outcome
-foundAs g im f = settled spoilt (triedAs g im f)
+foundAs g im found.Nothing = nothing
+foundAs g im (found.TooSmall n) = short n
+foundAs g im (found.Present x) = this (headOf g im x)
+foundAs g im found.Corrupted = spoilt
 
 abbrev pub turnAs : Geometry → List ℕ → Turn → Going
 turnAs g im (turn.Goes s) = goes (standAs s)
-turnAs g im (turn.Ends f) = ends (triedAs g im f)
+turnAs g im (turn.Ends e) = ends (endedAs g im e)
 
 -- ---- that what they name lies in the range, and in an image of n bytes
 
@@ -74,18 +78,29 @@ StandIn g (stand.PageAfter p) = p .0 < g .pages
 abbrev pub ChosenIn : Geometry → Chosen → Type 0
 ChosenIn g r = (p : ℕ) → chosenAs r ≡ gives p → p < g .pages
 
-abbrev pub MetIn : Geometry → ℕ → Met → Type 0
-MetIn g n met.Passed = Unit {0}
-MetIn g n (met.TooSmall k) = Unit {0}
-MetIn g n (met.Present x) = ItemIn g n x
+-- what was looked for between the addresses `start` and `end`
+abbrev pub MetIn : Geometry → ℕ → ℕ → ℕ → Met → Type 0
+MetIn g start end n met.Passed = Unit {0}
+MetIn g start end n (met.TooSmall a k) = (start ≤ a .0) × (a .0 ≤ end)
+MetIn g start end n (met.Present x) = ItemIn g n x
+
+abbrev pub EndedIn : Geometry → ℕ → Ended → Type 0
+EndedIn g n (ended.Nothing s) = StandIn g s
+EndedIn g n (ended.TooSmall s k) = StandIn g s
+EndedIn g n (ended.Present s x) = StandIn g s × ItemIn g n x
+EndedIn g n (ended.Failed s) = StandIn g s
 
 abbrev pub FoundIn : Geometry → ℕ → Found → Type 0
 FoundIn g n found.Nothing = Unit {0}
 FoundIn g n (found.TooSmall k) = Unit {0}
 FoundIn g n (found.Present x) = ItemIn g n x
 FoundIn g n found.Corrupted = Unit {0}
-FoundIn g n (found.Failed s) = StandIn g s
 
 abbrev pub TurnIn : Geometry → ℕ → Turn → Type 0
 TurnIn g n (turn.Goes s) = StandIn g s
-TurnIn g n (turn.Ends f) = FoundIn g n f
+TurnIn g n (turn.Ends e) = EndedIn g n e
+
+-- what a step came to, taken as what the search comes to
+pub record FoundBy (e : Ended) (f : Found) : Type 0 where
+  pub means : (g : Geometry) (im : List ℕ) → foundAs g im f ≡ outcomeOf (endedAs g im e)
+  pub within : (g : Geometry) (n : ℕ) → EndedIn g n e → FoundIn g n f

@@ -12,7 +12,7 @@ ghost use Rattle.item.specs.Places.{Inside};
 ghost use Rattle.item.specs.Scanning.{walkFrom};
 ghost use Rattle.page.specs.Searches.{chosenAs};
 ghost use Rattle.search.specs.Turns.{readTurn, leaveTurn, turnFrom};
-ghost use Rattle.search.specs.Meanings.{standAs, metAs, foundAs, triedAs, turnAs, ReadableFrom, StandIn, ChosenIn, MetIn, FoundIn, TurnIn};
+ghost use Rattle.search.specs.Meanings.{standAs, metAs, endedAs, foundAs, turnAs, ReadableFrom, StandIn, ChosenIn, MetIn, EndedIn, FoundIn, TurnIn, FoundBy};
 ghost use Rattle.search.specs.Searching.{Copies, Stores, ComesTo};
 use chip::Address;
 use chip::Budget;
@@ -31,27 +31,35 @@ pub enum NextAddress {
     PageAfter(Page),
 }
 
-// What reading the items of a page comes to: none is present, one is too long for the buffer, or this one is present.
+// What reading the items of a page comes to: none is present; one is too long for the buffer, and was looked for from this address; or this
+// one is present.
 enum Met {
     Passed,
-    TooSmall(usize),
+    TooSmall(Address, usize),
     Present(Item),
 }
 
-// What a search comes to. It is Corrupted where its start was not found, and Failed where it met a Corrupted page, with the stand from which
-// it may be run again.
+// What finding the next item comes to, with where the search then stands. It has Failed where it met a Corrupted page, and may be run again
+// from that stand.
+pub enum Ended {
+    Nothing(NextAddress),
+    TooSmall(NextAddress, usize),
+    Present(NextAddress, Item),
+    Failed(NextAddress),
+}
+
+// What a search comes to: Corrupted where one of its steps failed again.
 pub enum Found {
     Nothing,
     TooSmall(usize),
     Present(Item),
     Corrupted,
-    Failed(NextAddress),
 }
 
 // What one turn of the search comes to: it goes on from another stand, or ends.
 enum Turn {
     Goes(NextAddress),
-    Ends(Found),
+    Ends(Ended),
 }
 
 // What each part of the search comes to, and what it spent. Where it was cut, what stands beside `spent` has no say.
@@ -63,6 +71,11 @@ pub struct Starting {
 struct Turned {
     spent: Spent,
     turn: Turn,
+}
+
+pub struct Stepped {
+    pub spent: Spent,
+    pub ended: Ended,
 }
 
 pub struct Searched {
@@ -93,16 +106,24 @@ pub fn search(image: &mut [u8], buffer: &mut [u8], b: Budget, g: Geometry) -> Se
         },
         Chosen::At(oldest) => {
             let address = chip::page_data_start_address(g, oldest);
-            next(
-                image,
-                buffer,
-                spent.budget,
-                g,
-                oldest,
-                true,
-                NextAddress::Address(address),
-            )
+            let stand = NextAddress::Address(address);
+            let stepped = next(image, buffer, spent.budget, g, oldest, true, stand);
+            Searched {
+                spent: stepped.spent,
+                found: found_by(stepped.ended),
+            }
         }
+    }
+}
+
+fn found_by(ended: Ended) -> Found
+    ensures { λ r. ⌜ FoundBy ended r ⌝ }
+{
+    match ended {
+        Ended::Nothing(_) => Found::Nothing,
+        Ended::TooSmall(_, size) => Found::TooSmall(size),
+        Ended::Present(_, item) => Found::Present(item),
+        Ended::Failed(_) => Found::Corrupted,
     }
 }
 
@@ -157,24 +178,24 @@ pub fn next(
     oldest: Page,
     clears: bool,
     stand: NextAddress,
-) -> Searched
+) -> Stepped
     requires { ⌜ Within g (length (now image)) × StandIn g stand ⌝ }
-    ensures { λ r. ⌜ ComesTo (triedAs g) (FoundIn g) g b (withRepair g (nextStep g (length (now (buffer .entry))) (oldest .0) clears) (standAs stand) (now (image .entry))) (now (image .entry)) (now (image .exit)) (now (buffer .entry)) (now (buffer .exit)) (r .spent) (r .found) ⌝ }
+    ensures { λ r. ⌜ ComesTo (endedAs g) (EndedIn g) g b (withRepair g (nextStep g (length (now (buffer .entry))) (oldest .0) clears) (standAs stand) (now (image .entry))) (now (image .entry)) (now (image .exit)) (now (buffer .entry)) (now (buffer .exit)) (r .spent) (r .ended) ⌝ }
 {
-    let searched = next_inner(image, buffer, b, g, oldest, clears, stand);
-    let spent = searched.spent;
+    let stepped = next_inner(image, buffer, b, g, oldest, clears, stand);
+    let spent = stepped.spent;
     if spent.cut {
-        return searched;
+        return stepped;
     }
-    let found = searched.found;
-    let Found::Failed(stood) = found else {
-        return searched;
+    let ended = stepped.ended;
+    let Ended::Failed(stood) = ended else {
+        return stepped;
     };
     let repaired = page::try_general_repair(image, spent.budget, g);
     if repaired.cut {
-        return Searched {
+        return Stepped {
             spent: repaired,
-            found: Found::Failed(stood),
+            ended,
         };
     }
     next_inner(image, buffer, repaired.budget, g, oldest, clears, stood)
@@ -189,9 +210,9 @@ fn next_inner(
     oldest: Page,
     clears: bool,
     start: NextAddress,
-) -> Searched
+) -> Stepped
     requires { ⌜ Within g (length (now image)) × StandIn g start ⌝ }
-    ensures { λ r. ⌜ ComesTo (triedAs g) (FoundIn g) g b (nextStep g (length (now (buffer .entry))) (oldest .0) clears (standAs start) (now (image .entry))) (now (image .entry)) (now (image .exit)) (now (buffer .entry)) (now (buffer .exit)) (r .spent) (r .found) ⌝ }
+    ensures { λ r. ⌜ ComesTo (endedAs g) (EndedIn g) g b (nextStep g (length (now (buffer .entry))) (oldest .0) clears (standAs start) (now (image .entry))) (now (image .entry)) (now (image .exit)) (now (buffer .entry)) (now (buffer .exit)) (r .spent) (r .ended) ⌝ }
 {
     let mut budget = b;
     let mut stand = start;
@@ -200,13 +221,13 @@ fn next_inner(
         let turned = take_turn(image, buffer, budget, g, oldest, clears, stand);
         let spent = turned.spent;
         if spent.cut {
-            let found = Found::Nothing;
-            return Searched { spent, found };
+            let ended = Ended::Nothing(stand);
+            return Stepped { spent, ended };
         }
         let turn = turned.turn;
         match turn {
-            Turn::Ends(found) => {
-                return Searched { spent, found };
+            Turn::Ends(ended) => {
+                return Stepped { spent, ended };
             }
             Turn::Goes(further) => {
                 budget = spent.budget;
@@ -216,8 +237,8 @@ fn next_inner(
         }
     }
     let spent = Spent { cut: false, budget };
-    let found = Found::Nothing;
-    Searched { spent, found }
+    let ended = Ended::Nothing(stand);
+    Stepped { spent, ended }
 }
 
 fn take_turn(
@@ -259,15 +280,30 @@ fn read_page(image: &[u8], buffer: &mut [u8], g: Geometry, address: Address) -> 
     let met = read_items(image, buffer, g, address, end);
     match met {
         Met::Passed => Turn::Goes(NextAddress::PageAfter(p)),
-        Met::TooSmall(size) => Turn::Ends(Found::TooSmall(size)),
-        Met::Present(item) => Turn::Ends(Found::Present(item)),
+        Met::TooSmall(from, size) => Turn::Ends(Ended::TooSmall(NextAddress::Address(from), size)),
+        Met::Present(item) => {
+            let header = item.header;
+            let behind = header.next_item_address(g, item.address);
+            Turn::Ends(Ended::Present(stand_at(g, p, end, behind), item))
+        }
     }
+}
+
+// Where a search stands that has come to this address of page p, whose data ends at `end`.
+fn stand_at(g: Geometry, p: Page, end: Address, address: Address) -> NextAddress
+    requires { ⌜ Good g × (p .0 < g .pages) × (end .0 ≡ dataEnd g (p .0)) × (dataStart g (p .0) ≤ address .0) ⌝ }
+    ensures { λ r. ⌜ (standAs r ≡ standAt g (p .0) (address .0)) × StandIn g r ⌝ }
+{
+    if address.0 < end.0 {
+        return NextAddress::Address(address);
+    }
+    NextAddress::PageAfter(p)
 }
 
 // The live items from `start` on, in data that ends at `end`: the payload of each goes to the buffer's front, and torn ones are passed.
 fn read_items(image: &[u8], buffer: &mut [u8], g: Geometry, start: Address, end: Address) -> Met
     requires { ⌜ Inside g (length (now image)) (start .0) (end .0) ⌝ }
-    ensures { λ r. ⌜ Copies (metAs g) (MetIn g) g (readHeads g (length (now (buffer .entry))) (walkFrom g (now (image .entry)) (end .0) (start .0) .heads) (now (image .entry))) (now (image .entry)) (now (buffer .entry)) (now (buffer .exit)) r ⌝ }
+    ensures { λ r. ⌜ Copies (metAs g) (MetIn g (start .0) (end .0)) g (readHeads g (length (now (buffer .entry))) (start .0) (walkFrom g (now (image .entry)) (end .0) (start .0) .heads) (now (image .entry))) (now (image .entry)) (now (buffer .entry)) (now (buffer .exit)) r ⌝ }
 {
     let mut from = start;
     loop {
@@ -285,7 +321,7 @@ fn read_items(image: &[u8], buffer: &mut [u8], g: Geometry, start: Address, end:
                         return Met::Present(item);
                     }
                     MaybeItem::TooSmall(size) => {
-                        return Met::TooSmall(size);
+                        return Met::TooSmall(from, size);
                     }
                     MaybeItem::Erased(_) => {
                         return logic_bug();
@@ -332,13 +368,13 @@ fn leave_page(
     if page::is_same(state, PageState::Corrupted) {
         return Turned {
             spent: kept,
-            turn: Turn::Ends(Found::Failed(NextAddress::PageAfter(p))),
+            turn: Turn::Ends(Ended::Failed(NextAddress::PageAfter(p))),
         };
     }
     if page::is_same(state, PageState::Open) || next_page.0 == oldest.0 {
         return Turned {
             spent: kept,
-            turn: Turn::Ends(Found::Nothing),
+            turn: Turn::Ends(Ended::Nothing(NextAddress::PageAfter(p))),
         };
     }
     let address = chip::page_data_start_address(g, next_page);
