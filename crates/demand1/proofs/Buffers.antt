@@ -60,7 +60,7 @@ tail-fits w n h = omega (arith, round-up-fits w (n - roundDown w n) 1 h (omega (
 
 pub no-logic-bug : NoLogicBug
 no-logic-bug = record {
-  reads-live = λ g n hs im. heads-read g n hs im .each;
+  reads-live = λ g n a hs im. heads-read g n a hs im .each;
   not-erased = met-live;
   reborrows = λ g im n. peek-does g n im .answers;
   reborrows-pop = λ g im n. pop-does g n im .answers;

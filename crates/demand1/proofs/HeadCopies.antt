@@ -9,7 +9,7 @@ use lib.Dec.{ltb}
 use Rattle.paper.specs.declared.Geometry.{Geometry}
 use Rattle.paper.specs.Chip.{roundUp, headerSize, Event, store, erase, copy, plan, bind, andThen}
 use Rattle.paper.specs.Scan.{Head, live, present}
-use Rattle.paper.specs.Search.{Met, passed, long, met, readHeads}
+use Rattle.paper.specs.Search.{long, met, itemEnd, readHeads, Outcome, nothing, short, this, spoilt}
 use Rattle.demand1.specs.Range.{Each}
 use Rattle.demand1.specs.Buffers.{copiesIn, copiesOf}
 use Rattle.demand1.specs.Rows.{Passed}
@@ -51,10 +51,10 @@ module _ (g : Geometry) (n : ℕ) where
   readOf (h ∷ hs) =
       readBy (not (live h)) (ltb n (roundUp (g .word) (h .len))) (present h) (copy (h .place + headerSize g) (roundUp (g .word) (h .len))) (readOf hs)
 
-  pub copies-read : (hs : List Head) (im : List ℕ) → copiesIn (readHeads g n hs im .events) ≡ readOf hs
+  pub copies-read : (a : ℕ) (hs : List Head) (im : List ℕ) → copiesIn (readHeads g n a hs im .events) ≡ readOf hs
   unfolding readHeads readOf bind copiesIn
-  copies-read [] im = refl
-  copies-read (h ∷ hs) im = by (not (live h)) (ltb n size) (present h) (copies-read hs)
+  copies-read a [] im = refl
+  copies-read a (h ∷ hs) im = by (not (live h)) (ltb n size) (present h) (λ a. copies-read a hs)
     where
       size : ℕ
       size = roundUp (g .word) (h .len)
@@ -62,25 +62,27 @@ module _ (g : Geometry) (n : ℕ) where
       c : Event
       c = copy (h .place + headerSize g) (roundUp (g .word) (h .len))
 
-      by : (s t u : Bool) → ((im : List ℕ) → copiesIn (readHeads g n hs im .events) ≡ readOf hs)
-          → copiesIn (cond s (readHeads g n hs im)
-          (cond t (plan [] (long size)) (cond u (plan (c ∷ []) (met h)) (andThen g im (c ∷ []) (readHeads g n hs)))) .events)
+      by : (s t u : Bool) → ((a : ℕ) (im : List ℕ) → copiesIn (readHeads g n a hs im .events) ≡ readOf hs)
+          → copiesIn (cond s (readHeads g n a hs im)
+          (cond t (plan [] (long a size)) (cond u (plan (c ∷ []) (met h)) (andThen g im (c ∷ []) (readHeads g n (itemEnd g h) hs)))) .events)
           ≡ readBy s t u c (readOf hs)
-      by true t u f = f im
+      by true t u f = f a im
       by false true u f = refl
       by false false true f = refl
-      by false false false f = ap (λ (es : List Event). c ∷ es) (f _)
+      by false false false f = ap (λ (es : List Event). c ∷ es) (f (itemEnd g h) _)
 
   -- one list of headers after another: the second is read where all of the first is passed
-  abbrev pub thenRead : Met → List Event → List Event → List Event
-  thenRead passed es fs = es ++ fs
-  thenRead (long k) es fs = es
-  thenRead (met h) es fs = es
+  abbrev pub thenRead : Outcome → List Event → List Event → List Event
+  thenRead nothing es fs = es ++ fs
+  thenRead (short k) es fs = es
+  thenRead (this h) es fs = es
+  thenRead spoilt es fs = es
 
-  then-first : (m : Met) (c : Event) (es fs : List Event) → thenRead m (c ∷ es) fs ≡ c ∷ thenRead m es fs
-  then-first passed c es fs = refl
-  then-first (long k) c es fs = refl
-  then-first (met h) c es fs = refl
+  then-first : (m : Outcome) (c : Event) (es fs : List Event) → thenRead m (c ∷ es) fs ≡ c ∷ thenRead m es fs
+  then-first nothing c es fs = refl
+  then-first (short k) c es fs = refl
+  then-first (this h) c es fs = refl
+  then-first spoilt c es fs = refl
 
   pub read-append : (hs ks : List Head) → readOf (hs ++ ks) ≡ thenRead (meet g n hs) (readOf hs) (readOf ks)
   unfolding meet readOf

@@ -10,7 +10,7 @@ use Rattle.paper.specs.declared.Geometry.{Geometry}
 use Rattle.paper.specs.Checksum.{dataCrc}
 use Rattle.paper.specs.Chip.{roundUp, headerSize, Event, store, erase, copy, imageBy, imageAfter, plan, bind, andThen}
 use Rattle.paper.specs.Scan.{Head, live, present, payloads}
-use Rattle.paper.specs.Search.{Met, passed, long, met, readHeads}
+use Rattle.paper.specs.Search.{Met, passed, long, met, itemEnd, readHeads, Outcome, nothing, short, this, spoilt}
 use Rattle.demand1.specs.Range.{Each}
 use Rattle.demand1.specs.Buffers.{ReadOf}
 use Rattle.demand1.specs.Rows.{Passed, Stops}
@@ -31,15 +31,22 @@ copied-image g (store a word ∷ es) im h = absurd (h .0)
 copied-image g (erase p ∷ es) im h = absurd (h .0)
 copied-image g (copy a n ∷ es) im h = copied-image g es im (h .1)
 
+-- what a search comes to, by what its headers come to
+abbrev pub outcome : Met → Outcome
+outcome passed = nothing
+outcome (long a k) = short k
+outcome (met h) = this h
+
 -- what comes first, or else what follows
-abbrev pub thenMeet : Met → Met → Met
-thenMeet passed m = m
-thenMeet (long k) m = long k
-thenMeet (met h) m = met h
+abbrev pub thenMeet : Outcome → Outcome → Outcome
+thenMeet nothing m = m
+thenMeet (short k) m = short k
+thenMeet (this h) m = this h
+thenMeet spoilt m = spoilt
 
 module _ (g : Geometry) (n : ℕ) where
-  pub heads-copied : (hs : List Head) (im : List ℕ) → Each Copied (readHeads g n hs im .events)
-  heads-copied hs im = each-weaker (ReadOf g hs) Copied by (readHeads g n hs im .events) (heads-read g n hs im .each)
+  pub heads-copied : (a : ℕ) (hs : List Head) (im : List ℕ) → Each Copied (readHeads g n a hs im .events)
+  heads-copied a hs im = each-weaker (ReadOf g hs) Copied by (readHeads g n a hs im .events) (heads-read g n a hs im .each)
     where
       by : (e : Event) → ReadOf g hs e → Copied e
       by (store a word) r = r
@@ -49,20 +56,20 @@ module _ (g : Geometry) (n : ℕ) where
   -- ---- what it comes to
 
   -- by a header's tests: later is what the headers after it come to
-  abbrev pub meetBy : Bool → Bool → Bool → Head → Met → Met
+  abbrev pub meetBy : Bool → Bool → Bool → Head → Outcome → Outcome
   meetBy true over whole h later = later
-  meetBy false true whole h later = long (roundUp (g .word) (h .len))
-  meetBy false false true h later = met h
+  meetBy false true whole h later = short (roundUp (g .word) (h .len))
+  meetBy false false true h later = this h
   meetBy false false false h later = later
 
-  unfoldable pub meet : List Head → Met
-  meet [] = passed
+  unfoldable pub meet : List Head → Outcome
+  meet [] = nothing
   meet (h ∷ hs) = meetBy (not (live h)) (ltb n (roundUp (g .word) (h .len))) (present h) h (meet hs)
 
-  pub meets : (hs : List Head) (im : List ℕ) → readHeads g n hs im .answer ≡ meet hs
+  pub meets : (a : ℕ) (hs : List Head) (im : List ℕ) → outcome (readHeads g n a hs im .answer) ≡ meet hs
   unfolding readHeads meet bind
-  meets [] im = refl
-  meets (h ∷ hs) im = by (not (live h)) (ltb n size) (present h) (meets hs)
+  meets a [] im = refl
+  meets a (h ∷ hs) im = by (not (live h)) (ltb n size) (present h) (λ a. meets a hs)
     where
       size : ℕ
       size = roundUp (g .word) (h .len)
@@ -70,14 +77,14 @@ module _ (g : Geometry) (n : ℕ) where
       read : List Event
       read = copy (h .place + headerSize g) (roundUp (g .word) (h .len)) ∷ []
 
-      by : (a b c : Bool) → ((im : List ℕ) → readHeads g n hs im .answer ≡ meet hs)
-          → cond a (readHeads g n hs im)
-          (cond b (plan [] (long size)) (cond c (plan read (met h)) (andThen g im read (readHeads g n hs)))) .answer
-          ≡ meetBy a b c h (meet hs)
-      by true b c f = f im
-      by false true c f = refl
+      by : (s t u : Bool) → ((a : ℕ) (im : List ℕ) → outcome (readHeads g n a hs im .answer) ≡ meet hs)
+          → outcome (cond s (readHeads g n a hs im)
+          (cond t (plan [] (long a size)) (cond u (plan read (met h)) (andThen g im read (readHeads g n (itemEnd g h) hs)))) .answer)
+          ≡ meetBy s t u h (meet hs)
+      by true t u f = f a im
+      by false true u f = refl
       by false false true f = refl
-      by false false false f = f _
+      by false false false f = f (itemEnd g h) _
 
   -- one list of headers after another
   pub meet-append : (hs ks : List Head) → meet (hs ++ ks) ≡ thenMeet (meet hs) (meet ks)
@@ -124,24 +131,24 @@ module _ (g : Geometry) (n : ℕ) where
   passed-all [] ks e = refl
   passed-all (h ∷ hs) ks e = passed-meet h (hs ++ ks) (e .0) ∙ passed-all hs ks (e .1)
 
-  pub meet-long : (h : Head) (hs : List Head) → live h ≡ true → n < roundUp (g .word) (h .len) → meet (h ∷ hs) ≡ long (roundUp (g .word) (h .len))
+  pub meet-long : (h : Head) (hs : List Head) → live h ≡ true → n < roundUp (g .word) (h .len) → meet (h ∷ hs) ≡ short (roundUp (g .word) (h .len))
   unfolding meet
   meet-long h hs a b = rw (a, lt-ltb n (roundUp (g .word) (h .len)) b)
 
-  pub meet-met : (h : Head) (hs : List Head) → present h ≡ true → roundUp (g .word) (h .len) ≤ n → meet (h ∷ hs) ≡ met h
+  pub meet-met : (h : Head) (hs : List Head) → present h ≡ true → roundUp (g .word) (h .len) ≤ n → meet (h ∷ hs) ≡ this h
   unfolding meet
   meet-met h hs a b = rw (present-live h a, a, le-ltb n (roundUp (g .word) (h .len)) b)
 
   -- and back
-  pub data Meets (hs : List Head) : Met → Type 0 where
-    all : Each (Passed g n) hs → Meets hs passed
-    tooLong : (h : Head) → Stops g n hs h → live h ≡ true → n < roundUp (g .word) (h .len) → Meets hs (long (roundUp (g .word) (h .len)))
-    seen : (h : Head) → Stops g n hs h → present h ≡ true → roundUp (g .word) (h .len) ≤ n → Meets hs (met h)
+  pub data Meets (hs : List Head) : Outcome → Type 0 where
+    all : Each (Passed g n) hs → Meets hs nothing
+    tooLong : (h : Head) → Stops g n hs h → live h ≡ true → n < roundUp (g .word) (h .len) → Meets hs (short (roundUp (g .word) (h .len)))
+    seen : (h : Head) → Stops g n hs h → present h ≡ true → roundUp (g .word) (h .len) ≤ n → Meets hs (this h)
 
   stops-later : (h : Head) (hs : List Head) (x : Head) → Passed g n h → Stops g n hs x → Stops g n (h ∷ hs) x
   stops-later h hs x p s = record { front = h ∷ s .front; rest = s .rest; all = ap (λ (y : List Head). h ∷ y) (s .all); passed = (p, s .passed) }
 
-  meets-later : (h : Head) (hs : List Head) (m : Met) → Passed g n h → Meets hs m → Meets (h ∷ hs) m
+  meets-later : (h : Head) (hs : List Head) (m : Outcome) → Passed g n h → Meets hs m → Meets (h ∷ hs) m
   meets-later h hs m p (all e) = all (p, e)
   meets-later h hs m p (tooLong x s a b) = tooLong x (stops-later h hs x p s) a b
   meets-later h hs m p (seen x s a b) = seen x (stops-later h hs x p s) a b

@@ -7,10 +7,10 @@ use native.Mathlib.Omega.{arith}
 use lib.Dec.{eqb, ltb}
 use Rattle.paper.specs.declared.Geometry.{Geometry}
 use Rattle.paper.specs.declared.PageState.the-variants.{Open, Corrupted}
-use Rattle.paper.specs.Chip.{roundUp, headerSize, dataStart, pageOf, copy, erasePage, Plan, plan, Try, fails, gives, settled}
+use Rattle.paper.specs.Chip.{roundUp, headerSize, dataStart, pageOf, copy, erasePage, Plan, plan, Try, fails, gives}
 use Rattle.paper.specs.Scan.{Head, walkOn, live, present}
 use Rattle.paper.specs.Pages.{state, same, next}
-use Rattle.paper.specs.Search.{Met, passed, long, met, readHeads, Stand, fromAddress, afterPage, Outcome, nothing, short, this, spoilt, onMet, readPage, leavePage, nextItem, nextStep, startStep, searchOn, search, shownBy, popped, peek, pop}
+use Rattle.paper.specs.Search.{Met, passed, long, met, itemEnd, readHeads, Stand, fromAddress, afterPage, Outcome, nothing, short, this, spoilt, Ended, onMet, readPage, leavePage, nextItem, nextStep, startStep, outcomeOf, searchOn, search, shownBy, popped, peek, pop}
 use Rattle.laws.proofs.Accepted.{Laid}
 use Rattle.laws.proofs.Ring.{next-in}
 use Rattle.demand1.specs.Range.{Lies, Each}
@@ -24,7 +24,7 @@ use Rattle.demand1.proofs.Writes.{header-lies}
 
 abbrev MetPlaced : Geometry → Met → Type 0
 MetPlaced g passed = Unit {0}
-MetPlaced g (long k) = Unit {0}
+MetPlaced g (long a k) = Unit {0}
 MetPlaced g (met h) = Placed g h
 
 abbrev OutPlaced : Geometry → Outcome → Type 0
@@ -39,35 +39,40 @@ StandIn g (afterPage p) = p < g .pages
 
 -- b is the buffer's size
 module _ {g : Geometry} {n : ℕ} (S : Laid g n) (b : ℕ) where
-  both-heads : (hs : List Head) → Each (Placed g) hs → (im jm : List ℕ) → Alike g n im jm → Both g (MetPlaced g) (readHeads g b hs im) (readHeads g b hs jm)
+  both-heads : (a : ℕ) (hs : List Head) → Each (Placed g) hs → (im jm : List ℕ) → Alike g n im jm
+      → Both g (MetPlaced g) (readHeads g b a hs im) (readHeads g b a hs jm)
   unfolding readHeads
-  both-heads [] e im jm L = record { one = refl; lies = tt; fine = tt }
-  both-heads (h ∷ hs) e im jm L =
+  both-heads a [] e im jm L = record { one = refl; lies = tt; fine = tt }
+  both-heads a (h ∷ hs) e im jm L =
       let R = e .0 in
       let size : ℕ = roundUp (g .word) (h .len) in
       let read : Lies g (copy (h .place + headerSize g) size) = (omega (arith, R .low), omega (arith, R .high)) in
-      both-cond (not (live h)) (λ t. both-heads hs (e .1) im jm L)
+      both-cond (not (live h)) (λ t. both-heads a hs (e .1) im jm L)
       (λ t. both-cond (ltb b size) (λ t. record { one = refl; lies = tt; fine = tt })
       (λ t. both-cond (present h) (λ t. record { one = refl; lies = (read, tt); fine = R })
-      (λ t. both-then S im jm (copy (h .place + headerSize g) size ∷ []) (readHeads g b hs) L (read, tt) (both-heads hs (e .1)))))
+      (λ t. both-then S im jm (copy (h .place + headerSize g) size ∷ []) (readHeads g b (itemEnd g h) hs) L (read, tt) (both-heads (itemEnd g h) hs (e .1)))))
 
-  abbrev NextFine : Try Stand Outcome → Type 0
-  NextFine = Tried (StandIn g) (OutPlaced g)
+  abbrev EndPlaced : Ended → Type 0
+  EndPlaced e = OutPlaced g (e .outcome)
 
-  both-read : (a : ℕ) → InData g a → (further : List ℕ → Plan (Try Stand Outcome))
+  abbrev NextFine : Try Stand Ended → Type 0
+  NextFine = Tried (StandIn g) EndPlaced
+
+  both-read : (a : ℕ) → InData g a → (further : List ℕ → Plan (Try Stand Ended))
       → ((im jm : List ℕ) → Alike g n im jm → Both g NextFine (further im) (further jm))
       → (im jm : List ℕ) → Alike g n im jm → Both g NextFine (readPage g b a further im) (readPage g b a further jm)
   unfolding readPage onMet
   both-read a I further f im jm L =
       rw (← walk-on-same S im jm a I (alike-page S im jm L (pageOf g a) (I .page)))
-      (both-bind S (MetPlaced g) im jm (onMet further) L (both-heads (walkOn g im a .heads) (heads-placed S im (L .long) a I) im jm L) on)
+      (both-bind S (MetPlaced g) im jm (onMet g (pageOf g a) further) L (both-heads a (walkOn g im a .heads) (heads-placed S im (L .long) a I) im jm L) on)
     where
-      on : (m : Met) → MetPlaced g m → (im jm : List ℕ) → Alike g n im jm → Both g NextFine (onMet further m im) (onMet further m jm)
+      on : (m : Met) → MetPlaced g m → (im jm : List ℕ) → Alike g n im jm
+          → Both g NextFine (onMet g (pageOf g a) further m im) (onMet g (pageOf g a) further m jm)
       on passed v im jm L = f im jm L
-      on (long k) v im jm L = record { one = refl; lies = tt; fine = tt }
+      on (long s k) v im jm L = record { one = refl; lies = tt; fine = tt }
       on (met x) v im jm L = record { one = refl; lies = tt; fine = v }
 
-  both-leave : (old : ℕ) (clears : Bool) (p : ℕ) → p < g .pages → (further : List ℕ → Plan (Try Stand Outcome))
+  both-leave : (old : ℕ) (clears : Bool) (p : ℕ) → p < g .pages → (further : List ℕ → Plan (Try Stand Ended))
       → ((im jm : List ℕ) → Alike g n im jm → Both g NextFine (further im) (further jm))
       → (im jm : List ℕ) → Alike g n im jm → Both g NextFine (leavePage g old clears p further im) (leavePage g old clears p further jm)
   unfolding leavePage
@@ -92,12 +97,12 @@ module _ {g : Geometry} {n : ℕ} (S : Laid g n) (b : ℕ) where
   unfolding searchOn nextStep
   both-on (fails u) h im jm L = record { one = refl; lies = tt; fine = tt }
   both-on (gives old) h im jm L =
-      both-bind S NextFine im jm (λ t im₁. plan [] (settled spoilt t)) L
-      (both-steps S (StandIn g) (OutPlaced g) (nextStep g b old true) (both-next old true (2 * g .pages)) (fromAddress (dataStart g old))
+      both-bind S NextFine im jm (λ t im₁. plan [] (outcomeOf t)) L
+      (both-steps S (StandIn g) EndPlaced (nextStep g b old true) (both-next old true (2 * g .pages)) (fromAddress (dataStart g old))
       (start-in S old h) im jm L) end
     where
-      end : (t : Try Stand Outcome) → NextFine t → (im jm : List ℕ) → Alike g n im jm
-          → Both g (OutPlaced g) (plan [] (settled spoilt t)) (plan [] (settled spoilt t))
+      end : (t : Try Stand Ended) → NextFine t → (im jm : List ℕ) → Alike g n im jm
+          → Both g (OutPlaced g) (plan [] (outcomeOf t)) (plan [] (outcomeOf t))
       end (fails s) v im jm L = record { one = refl; lies = tt; fine = tt }
       end (gives o) v im jm L = record { one = refl; lies = tt; fine = v }
 

@@ -28,9 +28,9 @@ use Rattle.demand1.proofs.Repairs as repairs
 use Rattle.demand1.proofs.Steps.{is-fails, fails-not, steps-gives, steps-again}
 use Rattle.demand1.proofs.ReadingHeads.{meet, seen}
 use Rattle.demand1.proofs.HeadCopies.{copies-join, Kept, copies-none, readOf}
-use Rattle.demand1.proofs.Ways.{outcome, Clears}
+use Rattle.demand1.proofs.Ways.{Clears}
 use Rattle.demand1.proofs.Searching.{Went, search-went}
-use Rattle.demand1.proofs.WayRows.{row-none, seen-meet, row-short, row-seen, outcome-whole}
+use Rattle.demand1.proofs.WayRows.{row-none, seen-meet, row-short, row-seen, never-spoilt}
 
 clears-finished : (g : Geometry) (im : List ℕ) (e : Event) → Clears g im e → Finished g im e
 clears-finished g im (store a word) h = h
@@ -40,7 +40,7 @@ clears-finished g im (copy a n) h = tt
 module _ {g : Geometry} {n : ℕ} (S : Laid g n) (im : List ℕ) (size : length im ≡ n) (b : ℕ) where
   -- what is known of a search
   record Searched (p : Plan Outcome) : Type 0 where
-    pub goes : {hs : List Head} → Way g im hs → p .answer ≡ outcome (meet g b hs)
+    pub goes : {hs : List Head} → Way g im hs → p .answer ≡ meet g b hs
     pub copies : {hs : List Head} → Way g im hs → copiesIn (p .events) ≡ readOf g b hs
     pub clears : Each (Clears g im) (p .events)
     pub lost-is : p .answer ≡ spoilt → Fails (oldest g im) × Fails (oldest g (repaired g im))
@@ -75,7 +75,7 @@ module _ {g : Geometry} {n : ℕ} (S : Laid g n) (im : List ℕ) (size : length 
       → Searched (plan (es ++ searchOn g b (gives old) jm .events) (searchOn g b (gives old) jm .answer))
   searched-from jm es l c none back old e way not = record {
     copies = λ {hs} w. copies-join es found ∙ ap (λ (x : List Event). x ++ copiesIn found) none ∙ W .copies ∙ ap (readOf g b) (way hs w);
-    goes = λ {hs} w. W .answered ∙ ap (λ (x : List Head). outcome (meet g b x)) (way hs w);
+    goes = λ {hs} w. W .answered ∙ ap (meet g b) (way hs w);
     clears = each-append (Clears g im) es found c (each-weaker (Clears g jm) (Clears g im) back found (W .clears));
     lost-is = λ q. absurd (whole q);
     is-lost = λ k. absurd (not k);
@@ -89,7 +89,7 @@ module _ {g : Geometry} {n : ℕ} (S : Laid g n) (im : List ℕ) (size : length 
       W = search-went S jm b old (old-in jm old e) l e
 
       whole : searchOn g b (gives old) jm .answer ≡ spoilt → ⊥
-      whole q = outcome-whole (meet g b (onTheWay g jm old (from g old))) (sym (W .answered) ∙ q)
+      whole q = never-spoilt g b (onTheWay g jm old (from g old)) (sym (W .answered) ∙ q)
 
   searched-once : (old : ℕ) → oldest g im ≡ gives old → Searched (searchOn g b (gives old) im)
   searched-once old e = searched-from im [] size tt none-here (λ x h. h) old e (λ hs w. by w) (λ k. fails-not (k .0) e)
@@ -193,7 +193,7 @@ module _ {g : Geometry} {n : ℕ} (S : Laid g n) (im : List ℕ) (size : length 
 
   -- an item that is seen on the way is what the search comes to
   pub search-seen : {hs : List Head} {k : ℕ} → Way g im hs → (seen : Seen g b hs k) → search g im b .answer ≡ this (seen .head)
-  search-seen {hs} w T = searched .goes w ∙ ap outcome (seen-meet g b hs T)
+  search-seen {hs} w T = searched .goes w ∙ seen-meet g b hs T
 
   pub search-copies : {hs : List Head} → Way g im hs → copiesIn (search g im b .events) ≡ readOf g b hs
   search-copies w = searched .copies w

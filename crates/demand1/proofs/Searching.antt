@@ -9,10 +9,10 @@ use lib.ListN.{length}
 use Rattle.paper.specs.declared.Geometry.{Geometry}
 use Rattle.paper.specs.declared.PageState.{PageState}
 use Rattle.paper.specs.declared.PageState.the-variants.{Open, Corrupted}
-use Rattle.paper.specs.Chip.{dataStart, pageBytes, Event, imageAfter, Plan, plan, bind, Try, gives, settled}
+use Rattle.paper.specs.Chip.{dataStart, pageBytes, Event, imageAfter, Plan, plan, bind, Try, gives}
 use Rattle.paper.specs.Pages.{state, same, next, around, from, oldest, repair}
 use Rattle.paper.specs.Steps.{withRepair}
-use Rattle.paper.specs.Search.{long, Stand, fromAddress, afterPage, Outcome, nothing, spoilt, leavePage, nextItem, nextStep, searchOn}
+use Rattle.paper.specs.Search.{long, Stand, fromAddress, afterPage, Outcome, nothing, Ended, endsAt, leavePage, nextItem, nextStep, outcomeOf, searchOn}
 use Rattle.laws.proofs.Accepted.{Laid}
 use Rattle.laws.proofs.Marks.{same-is}
 use Rattle.laws.proofs.Ring.{next-in, turn-zero}
@@ -27,7 +27,7 @@ use Rattle.demand1.proofs.HeadCopies.{copies-join, Kept, copies-none, r
 use Rattle.demand1.proofs.Repairs.{Mended, opened, kept, mended}
 use Rattle.demand1.proofs.PageStates.{old-sound}
 use Rattle.demand1.proofs.Steps.{steps-gives, steps-fails}
-use Rattle.demand1.proofs.Ways.{outcome, Clears, Known, Ahead, Came, ends, stuck, Comes, ways}
+use Rattle.demand1.proofs.Ways.{Clears, Known, Ahead, Came, ends, stuck, Comes, ways}
 
 -- im is the image that the search began with, b the buffer's size, old the oldest page
 module _ {g : Geometry} {n : ℕ} (S : Laid g n) (im : List ℕ) (b old : ℕ) (ho : old < g .pages) where
@@ -62,7 +62,7 @@ module _ {g : Geometry} {n : ℕ} (S : Laid g n) (im : List ℕ) (b old : ℕ) (
       by (opened a o) = o
       by (kept a e) = let s = ap (λ (x : PageState). same x Corrupted) c in never (cc)
 
-  stops-open : (clears : Bool) (jm : List ℕ) (q : ℕ) → state g jm (next g q) ≡ Open → nextStep g b old clears (afterPage q) jm ≡ plan [] (gives nothing)
+  stops-open : (clears : Bool) (jm : List ℕ) (q : ℕ) → state g jm (next g q) ≡ Open → nextStep g b old clears (afterPage q) jm ≡ endsAt (afterPage q) nothing
   unfolding nextStep nextItem leavePage
   stops-open clears jm q o =
       let z : 2 * g .pages ≡ suc (2 * g .pages - 1) = omega (arith, S .some) in
@@ -72,13 +72,13 @@ module _ {g : Geometry} {n : ℕ} (S : Laid g n) (im : List ℕ) (b old : ℕ) (
   pub record Went (p : Plan Outcome) : Type 0 where
     pub clears : Each (Clears g im) (p .events)
     pub copies : copiesIn (p .events) ≡ readOf g b (onTheWay g im old (from g old))
-    pub answered : p .answer ≡ outcome (meet g b (onTheWay g im old (from g old)))
+    pub answered : p .answer ≡ meet g b (onTheWay g im old (from g old))
 
   pub search-went : length im ≡ n → oldest g im ≡ gives old → Went (searchOn g b (gives old) im)
   unfolding searchOn bind
   search-went size e = by (C .came)
     where
-      step : Stand → List ℕ → Plan (Try Stand Outcome)
+      step : Stand → List ℕ → Plan (Try Stand Ended)
       step = nextStep g b old true
 
       at : Stand
@@ -87,22 +87,22 @@ module _ {g : Geometry} {n : ℕ} (S : Laid g n) (im : List ℕ) (b old : ℕ) (
       C : Comes S im b old ho (onTheWay g im old (from g old)) im (nextStep g b old true (fromAddress (dataStart g old)) im)
       C = step-comes true size e
 
-      settle : {es : List Event} {t : Try Stand Outcome} → withRepair g step at im ≡ plan es t → Each (Clears g im) es
+      settle : {es : List Event} {t : Try Stand Ended} → withRepair g step at im ≡ plan es t → Each (Clears g im) es
           → copiesIn es ≡ readOf g b (onTheWay g im old (from g old))
-          → settled spoilt t ≡ outcome (meet g b (onTheWay g im old (from g old))) → Went (searchOn g b (gives old) im)
+          → outcomeOf t ≡ meet g b (onTheWay g im old (from g old)) → Went (searchOn g b (gives old) im)
       settle {es} {t} q f r a = rw q (record { clears = each-append (Clears g im) es [] f tt; copies = ap copiesIn (append-nil es) ∙ r; answered = a })
 
       none : (j : List ℕ) → copiesIn (repair g j) ≡ []
       none j = copies-none (repair g j) (repair-does g j Kept (S .some) (λ p h c. tt))
 
       by : Came S im b old ho (onTheWay g im old (from g old)) im (step at im) → Went (searchOn g b (gives old) im)
-      by (ends a) = settle (steps-gives g step at im a) (C .clears) (C .copies) refl
+      by (ends s a) = settle (steps-gives g step at im a) (C .clears) (C .copies) refl
       by (stuck q h a m s K) =
           let es : List Event = step at im .events in
           let j : List ℕ = imageAfter g es im in
           let l = stops-open true (repaired g j) q (repaired-open j (K .long) (next g q) (next-in g q h) s) in
-          settle (steps-fails g step at im a ∙ ap (λ (p : Plan (Try Stand Outcome)). plan (es ++ (repair g j ++ p .events)) (p .answer)) l)
+          settle (steps-fails g step at im a ∙ ap (λ (p : Plan (Try Stand Ended)). plan (es ++ (repair g j ++ p .events)) (p .answer)) l)
           (each-append (Clears g im) es (repair g j ++ []) (C .clears) (each-append (Clears g im) (repair g j) [] (repair-clears j K) tt))
           (copies-join es (repair g j ++ []) ∙ ap (λ (x : List Event). copiesIn es ++ x) (ap copiesIn (append-nil (repair g j)) ∙ none j)
           ∙ append-nil (copiesIn es) ∙ C .copies)
-          (sym (ap outcome m))
+          (sym m)

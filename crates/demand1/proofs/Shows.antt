@@ -9,12 +9,12 @@ use lib.ListN.{length, take, drop}
 use lib.Seq.{take-take, take-append-le}
 use Rattle.paper.specs.declared.Geometry.{Geometry}
 use Rattle.paper.specs.declared.PageState.the-variants.{Open, Corrupted}
-use Rattle.paper.specs.Chip.{roundUp, headerSize, dataStart, pageOf, part, Event, copy, put, erasePage, imageBy, imageAfter, bufferBy, bufferAfter, Plan, plan, bind, andThen, Try, fails, gives, settled}
+use Rattle.paper.specs.Chip.{roundUp, headerSize, dataStart, pageOf, part, Event, copy, put, erasePage, imageBy, imageAfter, bufferBy, bufferAfter, Plan, plan, bind, andThen, Try, fails, gives}
 use Rattle.paper.specs.Slip.{encode}
 use Rattle.paper.specs.Scan.{Head, walkOn, live, present}
 use Rattle.paper.specs.Pages.{state, same, next, repair}
 use Rattle.paper.specs.Steps.{retry, withRepair}
-use Rattle.paper.specs.Search.{Met, passed, long, met, readHeads, Stand, fromAddress, afterPage, Outcome, nothing, this, spoilt, onMet, readPage, leavePage, nextItem, nextStep, startStep, searchOn, search, popped, peek, pop}
+use Rattle.paper.specs.Search.{Met, passed, long, met, itemEnd, readHeads, Stand, fromAddress, afterPage, nothing, this, Ended, endsAt, onMet, readPage, leavePage, nextItem, nextStep, startStep, outcomeOf, searchOn, search, popped, peek, pop}
 use Rattle.laws.proofs.Parts.{length-part}
 use Rattle.demand1.specs.Range.{Each}
 use Rattle.demand1.specs.Buffers.{Copies}
@@ -57,51 +57,52 @@ lasts-front {g} {h} {im} b (later e {es} x) c buf l =
 -- ---- reading
 
 module _ (g : Geometry) (b : ℕ) where
-  heads-last : (hs : List Head) (im : List ℕ) → Each (Whole g im) hs → (h : Head) → readHeads g b hs im .answer ≡ met h
-      → Lasts g h im (readHeads g b hs im .events)
+  heads-last : (a : ℕ) (hs : List Head) (im : List ℕ) → Each (Whole g im) hs → (h : Head) → readHeads g b a hs im .answer ≡ met h
+      → Lasts g h im (readHeads g b a hs im .events)
   unfolding readHeads bind imageAfter imageBy
-  heads-last [] im w h e = never (cc)
-  heads-last (x ∷ hs) im w h e = by (not (live x)) (ltb b (roundUp (g .word) (x .len))) (present x) e (heads-last hs im (w .1) h)
+  heads-last a [] im w h e = never (cc)
+  heads-last a (x ∷ hs) im w h e =
+      by (not (live x)) (ltb b (roundUp (g .word) (x .len))) (present x) e (λ a. heads-last a hs im (w .1) h)
     where
       read : List Event
       read = copy (x .place + headerSize g) (roundUp (g .word) (x .len)) ∷ []
 
-      by : (s t u : Bool) → cond s (readHeads g b hs im)
-          (cond t (plan [] (long (roundUp (g .word) (x .len)))) (cond u (plan read (met x)) (andThen g im read (readHeads g b hs)))) .answer
+      by : (s t u : Bool) → cond s (readHeads g b a hs im)
+          (cond t (plan [] (long a (roundUp (g .word) (x .len)))) (cond u (plan read (met x)) (andThen g im read (readHeads g b (itemEnd g x) hs)))) .answer
           ≡ met h
-          → (readHeads g b hs im .answer ≡ met h → Lasts g h im (readHeads g b hs im .events))
-          → Lasts g h im (cond s (readHeads g b hs im)
-          (cond t (plan [] (long (roundUp (g .word) (x .len))))
-          (cond u (plan read (met x)) (andThen g im read (readHeads g b hs)))) .events)
-      by true t u e f = f e
+          → ((a : ℕ) → readHeads g b a hs im .answer ≡ met h → Lasts g h im (readHeads g b a hs im .events))
+          → Lasts g h im (cond s (readHeads g b a hs im)
+          (cond t (plan [] (long a (roundUp (g .word) (x .len))))
+          (cond u (plan read (met x)) (andThen g im read (readHeads g b (itemEnd g x) hs)))) .events)
+      by true t u e f = f a e
       by false true u e f = never (cc)
       by false false true e f = let z : x ≡ h = cc in subst (λ (y : Head). Lasts g y im (plan {A = Met} read (met x) .events)) z (last (w .0) tt)
-      by false false false e f = later (copy (x .place + headerSize g) (roundUp (g .word) (x .len))) (f e)
+      by false false false e f = later (copy (x .place + headerSize g) (roundUp (g .word) (x .len))) (f (itemEnd g x) e)
 
   -- ---- the search
 
   -- a plan whose answer is an item ends with its copy
-  abbrev Ends : List ℕ → Plan (Try Stand Outcome) → Type 0
-  Ends im p = (h : Head) → p .answer ≡ gives (this h) → Lasts g h im (p .events)
+  abbrev Ends : List ℕ → Plan (Try Stand Ended) → Type 0
+  Ends im p = (h : Head) → outcomeOf (p .answer) ≡ this h → Lasts g h im (p .events)
 
-  read-ends : (a : ℕ) (further : List ℕ → Plan (Try Stand Outcome)) → ((im : List ℕ) → Ends im (further im)) → (im : List ℕ)
+  read-ends : (a : ℕ) (further : List ℕ → Plan (Try Stand Ended)) → ((im : List ℕ) → Ends im (further im)) → (im : List ℕ)
       → Ends im (readPage g b a further im)
   unfolding readPage bind onMet
-  read-ends a further f im h = by (readHeads g b (walkOn g im a .heads) im .answer) refl
+  read-ends a further f im h = by (readHeads g b a (walkOn g im a .heads) im .answer) refl
     where
       r : Plan Met
-      r = readHeads g b (walkOn g im a .heads) im
+      r = readHeads g b a (walkOn g im a .heads) im
 
       i : List ℕ
-      i = imageAfter g (readHeads g b (walkOn g im a .heads) im .events) im
+      i = imageAfter g (readHeads g b a (walkOn g im a .heads) im .events) im
 
-      by : (m : Met) → readHeads g b (walkOn g im a .heads) im .answer ≡ m → onMet further m i .answer ≡ gives (this h)
-          → Lasts g h im (readHeads g b (walkOn g im a .heads) im .events ++ onMet further m i .events)
+      by : (m : Met) → readHeads g b a (walkOn g im a .heads) im .answer ≡ m → outcomeOf (onMet g (pageOf g a) further m i .answer) ≡ this h
+          → Lasts g h im (readHeads g b a (walkOn g im a .heads) im .events ++ onMet g (pageOf g a) further m i .events)
       by passed q e = lasts-behind (r .events) (further i .events) im (f i h e)
-      by (long k) q e = never (cc)
-      by (met x) q e = let z : x ≡ h = cc in lasts-before [] tt (heads-last (walkOn g im a .heads) im (walk-on-whole g im a) h (q ∙ ap met z))
+      by (long s k) q e = never (cc)
+      by (met x) q e = let z : x ≡ h = cc in lasts-before [] tt (heads-last a (walkOn g im a .heads) im (walk-on-whole g im a) h (q ∙ ap met z))
 
-  leave-ends : (old : ℕ) (clears : Bool) (p : ℕ) (further : List ℕ → Plan (Try Stand Outcome)) → ((im : List ℕ) → Ends im (further im)) → (im : List ℕ)
+  leave-ends : (old : ℕ) (clears : Bool) (p : ℕ) (further : List ℕ → Plan (Try Stand Ended)) → ((im : List ℕ) → Ends im (further im)) → (im : List ℕ)
       → Ends im (leavePage g old clears p further im)
   unfolding leavePage bind
   leave-ends old clears p further f im h = by (same (state g im (next g p)) Corrupted) (same (state g im (next g p)) Open || eqb (next g p) old)
@@ -109,8 +110,9 @@ module _ (g : Geometry) (b : ℕ) where
       es : List Event
       es = cond clears (erasePage g p) []
 
-      by : (s t : Bool) → cond s (plan [] (fails (afterPage p))) (cond t (plan [] (gives nothing)) (andThen g im es further)) .answer ≡ gives (this h)
-          → Lasts g h im (cond s (plan [] (fails (afterPage p))) (cond t (plan [] (gives nothing)) (andThen g im es further)) .events)
+      by : (s t : Bool) → outcomeOf (cond s (plan [] (fails (afterPage p))) (cond t (endsAt (afterPage p) nothing) (andThen g im es further)) .answer)
+          ≡ this h
+          → Lasts g h im (cond s (plan [] (fails (afterPage p))) (cond t (endsAt (afterPage p) nothing) (andThen g im es further)) .events)
       by true t e = never (cc)
       by false true e = never (cc)
       by false false e = lasts-behind es (further (imageAfter g es im) .events) im (f (imageAfter g es im) h e)
@@ -124,7 +126,7 @@ module _ (g : Geometry) (b : ℕ) where
         let s : Stand = fromAddress (dataStart g (next g p)) in
         leave-ends old clears p (nextItem g b old clears k s) (next-ends k s) im h e
 
-    abbrev step : Stand → List ℕ → Plan (Try Stand Outcome)
+    abbrev step : Stand → List ℕ → Plan (Try Stand Ended)
     step = nextStep g b old clears
 
     steps-end : (s : Stand) (im : List ℕ) → Ends im (withRepair g step s im)
@@ -137,9 +139,9 @@ module _ (g : Geometry) (b : ℕ) where
         i : List ℕ
         i = imageAfter g (step s im .events) im
 
-        by : (t : Try Stand Outcome) → step s im .answer ≡ t → retry g step t i .answer ≡ gives (this h)
+        by : (t : Try Stand Ended) → step s im .answer ≡ t → outcomeOf (retry g step t i .answer) ≡ this h
             → Lasts g h im (step s im .events ++ retry g step t i .events)
-        by (gives o) q e = lasts-before [] tt (next-ends (2 * g .pages) s im h (q ∙ e))
+        by (gives o) q e = lasts-before [] tt (next-ends (2 * g .pages) s im h (ap outcomeOf q ∙ e))
         by (fails v) q e = lasts-behind es _ im (lasts-behind (repair g i) _ i (next-ends (2 * g .pages) v (imageAfter g (repair g i) i) h e))
 
   search-last : (im : List ℕ) (h : Head) → search g im b .answer ≡ this h → Lasts g h im (search g im b .events)
@@ -154,15 +156,7 @@ module _ (g : Geometry) (b : ℕ) where
 
       by : (t : Try Unit ℕ) → searchOn g b t i .answer ≡ this h → Lasts g h im (withRepair g (startStep g) tt im .events ++ searchOn g b t i .events)
       by (fails u) e = never (cc)
-      by (gives old) e = lasts-behind es _ im (on (withRepair g (step old true) s i .answer) refl e)
-        where
-          s : Stand
-          s = fromAddress (dataStart g old)
-
-          on : (t : Try Stand Outcome) → withRepair g (step old true) s i .answer ≡ t → settled spoilt t ≡ this h
-              → Lasts g h i (withRepair g (step old true) s i .events ++ [])
-          on (fails v) q e = never (cc)
-          on (gives o) q e = lasts-before [] tt (steps-end old true s i h (q ∙ ap gives e))
+      by (gives old) e = lasts-behind es _ im (lasts-before [] tt (steps-end old true (fromAddress (dataStart g old)) i h e))
 
   -- ---- the call
 

@@ -13,7 +13,7 @@ use Rattle.paper.specs.declared.PageState.the-variants.{Open, Corrupted}
 use Rattle.paper.specs.Chip.{dataStart, pageOf, pageBytes, Event, store, erase, copy, erasePage, imageAfter, Plan, plan, bind, andThen, Try, fails, gives}
 use Rattle.paper.specs.Scan.{Head, pageWalk, walkOn, payloads}
 use Rattle.paper.specs.Pages.{state, same, next, around}
-use Rattle.paper.specs.Search.{Met, passed, long, met, readHeads, Stand, fromAddress, afterPage, Outcome, nothing, short, this, onMet, readPage, leavePage, nextItem}
+use Rattle.paper.specs.Search.{Met, passed, long, met, readHeads, Stand, fromAddress, afterPage, Outcome, nothing, short, this, Ended, endsAt, onMet, readPage, leavePage, nextItem}
 use Rattle.laws.proofs.Accepted.{Laid}
 use Rattle.laws.proofs.Events.{image-append}
 use Rattle.laws.proofs.Marks.{same-is}
@@ -27,14 +27,11 @@ use Rattle.demand1.proofs.Lists.{each-append, each-weaker, never}
 use Rattle.demand1.proofs.Pages.{InData, inner, start-in, state-same, walk-on-same}
 use Rattle.demand1.proofs.EachEvent.{left-does}
 use Rattle.demand1.proofs.Frames.{erase-long, erase-other, erase-open}
-use Rattle.demand1.proofs.ReadingHeads.{Copied, copied-image, heads-copied, meet, meets, thenMeet, meet-append, passed-payloads, Meets, all, tooLong, seen, meet-is}
+use Rattle.demand1.proofs.ReadingHeads.{Copied, copied-image, heads-copied, outcome, meet, meets, thenMeet, meet-append, passed-payloads, Meets, all, tooLong, seen, meet-is}
 use Rattle.demand1.proofs.HeadCopies.{copies-join, Kept, copies-none, readOf, copies-read, thenRead, read-append}
 
--- what a search comes to, by what its headers come to
-abbrev pub outcome : Met → Outcome
-outcome passed = nothing
-outcome (long k) = short k
-outcome (met h) = this h
+abbrev ended : Stand → Outcome → Try Stand Ended
+ended s o = gives (record { stand = s; outcome = o })
 
 -- no store, and an erase of a finished page
 abbrev pub Clears : Geometry → List ℕ → Event → Type 0
@@ -61,12 +58,12 @@ module _ {g : Geometry} {n : ℕ} (S : Laid g n) (im : List ℕ) (b old : ℕ) (
     pub safe : same (state g cur old) Corrupted ≡ false
 
   -- what a plan from the image cur comes to, where hs are the headers on its way: it ends; or it is stuck before a Corrupted page
-  pub data Came (hs : List Head) (cur : List ℕ) (p : Plan (Try Stand Outcome)) : Type 0 where
-    ends : p .answer ≡ gives (outcome (meet g b hs)) → Came hs cur p
-    stuck : (q : ℕ) → q < g .pages → p .answer ≡ fails (afterPage q) → meet g b hs ≡ passed → state g (imageAfter g (p .events) cur) (next g q) ≡ Corrupted
+  pub data Came (hs : List Head) (cur : List ℕ) (p : Plan (Try Stand Ended)) : Type 0 where
+    ends : (s : Stand) → p .answer ≡ ended s (meet g b hs) → Came hs cur p
+    stuck : (q : ℕ) → q < g .pages → p .answer ≡ fails (afterPage q) → meet g b hs ≡ nothing → state g (imageAfter g (p .events) cur) (next g q) ≡ Corrupted
         → Known (imageAfter g (p .events) cur) → Came hs cur p
 
-  pub record Comes (hs : List Head) (cur : List ℕ) (p : Plan (Try Stand Outcome)) : Type 0 where
+  pub record Comes (hs : List Head) (cur : List ℕ) (p : Plan (Try Stand Ended)) : Type 0 where
     pub clears : Each (Clears g im) (p .events)
     pub copies : copiesIn (p .events) ≡ readOf g b hs
     pub came : Came hs cur p
@@ -134,7 +131,7 @@ module _ {g : Geometry} {n : ℕ} (S : Laid g n) (im : List ℕ) (b old : ℕ) (
   abbrev stops : List ℕ → ℕ → Bool
   stops jm q = same (state g jm q) Open || same (state g jm q) Corrupted || eqb q old
 
-  come-leave : (clears : Bool) (p : ℕ) (h : p < g .pages) (cur : List ℕ) (further : List ℕ → Plan (Try Stand Outcome)) (later : List Head)
+  come-leave : (clears : Bool) (p : ℕ) (h : p < g .pages) (cur : List ℕ) (further : List ℕ → Plan (Try Stand Ended)) (later : List Head)
       → Known cur → Next cur (next g p)
       → (clears ≡ true → payloads (pageWalk g im p .heads) ≡ []) → (let i = imageAfter g (left clears p) cur in Comes later i (further i))
       → Comes (cond (stops im (next g p)) [] later) cur (leavePage g old clears p further cur)
@@ -146,7 +143,7 @@ module _ {g : Geometry} {n : ℕ} (S : Laid g n) (im : List ℕ) (b old : ℕ) (
         or-true (same (state g im (next g p)) Open || same (state g im (next g p)) Corrupted),
         or-true (same (state g cur (next g p)) Open),
       )
-      (record { clears = tt; copies = refl; came = ends refl })
+      (record { clears = tt; copies = refl; came = ends (afterPage p) refl })
   come-leave clears p h cur further later K (onward e) none C =
       rw e (by (same (state g im (next g p)) Open) (same (state g im (next g p)) Corrupted) (eqb (next g p) old) refl)
     where
@@ -160,16 +157,16 @@ module _ {g : Geometry} {n : ℕ} (S : Laid g n) (im : List ℕ) (b old : ℕ) (
       i = imageAfter g (left clears p) cur
 
       turned : Came later i (further i) → Came later cur (andThen g cur es further)
-      turned (ends q) = ends q
+      turned (ends s q) = ends s q
       turned (stuck q k a m s K) = let z = image-append g es (further i .events) cur in stuck q k a m (rw z s) (rw z K)
 
       by : (o c r : Bool) → same (state g im (next g p)) Corrupted ≡ c
           → Comes (cond (o || c || r) [] later) cur
-          (cond c (plan [] (fails (afterPage p))) (cond (o || r) (plan [] (gives nothing)) (andThen g cur es further)))
+          (cond c (plan [] (fails (afterPage p))) (cond (o || r) (endsAt (afterPage p) nothing) (andThen g cur es further)))
       by true true r q = record { clears = tt; copies = refl; came = stuck p h refl refl (e ∙ same-is (state g im (next g p)) Corrupted q) quiet }
       by false true r q = record { clears = tt; copies = refl; came = stuck p h refl refl (e ∙ same-is (state g im (next g p)) Corrupted q) quiet }
-      by true false r q = record { clears = tt; copies = refl; came = ends refl }
-      by false false true q = record { clears = tt; copies = refl; came = ends refl }
+      by true false r q = record { clears = tt; copies = refl; came = ends (afterPage p) refl }
+      by false false true q = record { clears = tt; copies = refl; came = ends (afterPage p) refl }
       by false false false q = record {
         clears =
             each-append (Clears g im) es (further i .events) (left-does g (Clears g im) clears p (λ t. (h, inr (none t)))) (C .clears);
@@ -179,72 +176,77 @@ module _ {g : Geometry} {n : ℕ} (S : Laid g n) (im : List ℕ) (b old : ℕ) (
 
   -- ---- reading a page
 
-  none-present : (hs : List Head) {m : Met} → Meets g b hs m → m ≡ passed → payloads hs ≡ []
+  none-present : (hs : List Head) {m : Outcome} → Meets g b hs m → m ≡ nothing → payloads hs ≡ []
   none-present hs (all e) q = passed-payloads g b hs e
   none-present hs (tooLong h s a c) q = never (cc)
   none-present hs (seen h s a c) q = never (cc)
 
-  module _ (hs : List Head) (cur : List ℕ) (further : List ℕ → Plan (Try Stand Outcome)) where
+  -- from address a on, in page r
+  module _ (a r : ℕ) (hs : List Head) (cur : List ℕ) (further : List ℕ → Plan (Try Stand Ended)) where
     abbrev reads : List Event
-    reads = readHeads g b hs cur .events
+    reads = readHeads g b a hs cur .events
 
     only-copies : Each Copied reads
-    only-copies = heads-copied g b hs cur
+    only-copies = heads-copied g b a hs cur
 
     done : Each (Clears g im) reads
     done = each-weaker Copied (Clears g im) (copied-clears g im) reads only-copies
 
-    bound : (m : Met) → meet g b hs ≡ m
-        → bind g cur (readHeads g b hs cur) (onMet further) ≡ plan (reads ++ onMet further m cur .events) (onMet further m cur .answer)
+    bound : (m : Met) → readHeads g b a hs cur .answer ≡ m
+        → bind g cur (readHeads g b a hs cur) (onMet g r further) ≡ plan (reads ++ onMet g r further m cur .events) (onMet g r further m cur .answer)
     unfolding bind
-    bound m q = rw (meets g b hs cur, q, copied-image g reads cur only-copies)
+    bound m q = rw (q, copied-image g reads cur only-copies)
 
-    joined : (later : List Head) (m : Met) → meet g b hs ≡ m → meet g b (hs ++ later) ≡ thenMeet m (meet g b later)
-    joined later m q = meet-append g b hs later ∙ ap (λ (x : Met). thenMeet x (meet g b later)) q
+    met-so : (m : Met) → readHeads g b a hs cur .answer ≡ m → meet g b hs ≡ outcome m
+    met-so m q = sym (meets g b a hs cur) ∙ ap outcome q
+
+    joined : (later : List Head) (m : Outcome) → meet g b hs ≡ m → meet g b (hs ++ later) ≡ thenMeet m (meet g b later)
+    joined later m q = meet-append g b hs later ∙ ap (λ (x : Outcome). thenMeet x (meet g b later)) q
 
     -- what is copied here, and then
     read-then : (es : List Event) → copiesIn (reads ++ es) ≡ readOf g b hs ++ copiesIn es
-    read-then es = copies-join reads es ∙ ap (λ (x : List Event). x ++ copiesIn es) (copies-read g b hs cur)
+    read-then es = copies-join reads es ∙ ap (λ (x : List Event). x ++ copiesIn es) (copies-read g b a hs cur)
 
-    read-only : (later : List Head) (m : Met) → meet g b hs ≡ m → ((es fs : List Event) → thenRead g b m es fs ≡ es)
+    read-only : (later : List Head) (m : Outcome) → meet g b hs ≡ m → ((es fs : List Event) → thenRead g b m es fs ≡ es)
         → copiesIn (reads ++ []) ≡ readOf g b (hs ++ later)
     unfolding copiesIn
     read-only later m q f =
         read-then [] ∙ append-nil (readOf g b hs) ∙ sym (f (readOf g b hs) (readOf g b later))
-        ∙ ap (λ (x : Met). thenRead g b x (readOf g b hs) (readOf g b later)) (sym q) ∙ sym (read-append g b hs later)
+        ∙ ap (λ (x : Outcome). thenRead g b x (readOf g b hs) (readOf g b later)) (sym q) ∙ sym (read-append g b hs later)
 
     come-heads : (later : List Head) → (payloads hs ≡ [] → Comes later cur (further cur))
-        → Comes (hs ++ later) cur (bind g cur (readHeads g b hs cur) (onMet further))
+        → Comes (hs ++ later) cur (bind g cur (readHeads g b a hs cur) (onMet g r further))
     unfolding onMet
-    come-heads later f = by (meet g b hs) refl
+    come-heads later f = by (readHeads g b a hs cur .answer) refl
       where
         after : (es : List Event) → imageAfter g (reads ++ es) cur ≡ imageAfter g es cur
         after es = image-append g reads es cur ∙ ap (imageAfter g es) (copied-image g reads cur only-copies)
 
-        come : meet g b hs ≡ passed → Came later cur (further cur) → Came (hs ++ later) cur (plan (reads ++ further cur .events) (further cur .answer))
-        come q (ends a) = ends (a ∙ ap (λ (m : Met). gives (outcome m)) (sym (joined later passed q)))
-        come q (stuck r h a m s K) = stuck r h a (joined later passed q ∙ m) (rw (after (further cur .events)) s) (rw (after (further cur .events)) K)
+        come : meet g b hs ≡ nothing → Came later cur (further cur) → Came (hs ++ later) cur (plan (reads ++ further cur .events) (further cur .answer))
+        come q (ends s e) = ends s (e ∙ ap (ended s) (sym (joined later nothing q)))
+        come q (stuck r h e m s K) = stuck r h e (joined later nothing q ∙ m) (rw (after (further cur .events)) s) (rw (after (further cur .events)) K)
 
-        by : (m : Met) → meet g b hs ≡ m → Comes (hs ++ later) cur (bind g cur (readHeads g b hs cur) (onMet further))
+        by : (m : Met) → readHeads g b a hs cur .answer ≡ m → Comes (hs ++ later) cur (bind g cur (readHeads g b a hs cur) (onMet g r further))
         by passed q =
-            let C = f (none-present hs (meet-is g b hs) q) in
+            let z = met-so passed q in
+            let C = f (none-present hs (meet-is g b hs) z) in
             subst (Comes (hs ++ later) cur) (sym (bound passed q)) (record {
               clears = each-append (Clears g im) reads (further cur .events) done (C .clears);
               copies = read-then (further cur .events) ∙ ap (λ (x : List Event). readOf g b hs ++ x) (C .copies)
-                  ∙ ap (λ (x : Met). thenRead g b x (readOf g b hs) (readOf g b later)) (sym q) ∙ sym (read-append g b hs later);
-              came = come q (C .came);
+                  ∙ ap (λ (x : Outcome). thenRead g b x (readOf g b hs) (readOf g b later)) (sym z) ∙ sym (read-append g b hs later);
+              came = come z (C .came);
             })
-        by (long k) q = subst (Comes (hs ++ later) cur) (sym (bound (long k) q))
+        by (long s k) q = subst (Comes (hs ++ later) cur) (sym (bound (long s k) q))
             (record {
               clears = each-append (Clears g im) reads [] done tt;
-              copies = read-only later (long k) q (λ es fs. refl);
-              came = ends (ap (λ (m : Met). gives (outcome m)) (sym (joined later (long k) q)));
+              copies = read-only later (short k) (met-so (long s k) q) (λ es fs. refl);
+              came = ends (fromAddress s) (ap (ended (fromAddress s)) (sym (joined later (short k) (met-so (long s k) q))));
             })
         by (met h) q = subst (Comes (hs ++ later) cur) (sym (bound (met h) q))
             (record {
               clears = each-append (Clears g im) reads [] done tt;
-              copies = read-only later (met h) q (λ es fs. refl);
-              came = ends (ap (λ (m : Met). gives (outcome m)) (sym (joined later (met h) q)));
+              copies = read-only later (this h) (met-so (met h) q) (λ es fs. refl);
+              came = ends _ (ap (ended _) (sym (joined later (this h) (met-so (met h) q))));
             })
 
   -- ---- all the way
@@ -259,16 +261,16 @@ module _ {g : Geometry} {n : ℕ} (S : Laid g n) (im : List ℕ) (b old : ℕ) (
     come-page m k i e cur A a I here finished later f =
         let p : ℕ = turn g old i in
         let h : i < g .pages = omega arith in
-        let further : List ℕ → Plan (Try Stand Outcome) = nextItem g b old clears m (fromAddress (dataStart g (next g p))) in
+        let further : List ℕ → Plan (Try Stand Ended) = nextItem g b old clears m (fromAddress (dataStart g (next g p))) in
         rw (walk-on-same S cur im a I (rw here (A .fresh i (omega arith) h)), here)
-        (come-heads (walkOn g im a .heads) cur (leavePage g old clears p further) _
+        (come-heads a p (walkOn g im a .heads) cur (leavePage g old clears p further) _
         (λ none. come-leave clears p (turn-lt g old i ho (omega arith)) cur further later (A .known) (next-page i k cur e A) (λ t. finished t none)
         (f (imageAfter g (left clears p) cur) (left-ahead clears i h cur A))))
 
     pub ways : (k i : ℕ) → i + k ≡ g .pages → (cur : List ℕ) → Ahead i cur
         → Comes (onTheWay g im old (around g k (turn g old i))) cur (nextItem g b old clears (2 * k) (fromAddress (dataStart g (turn g old i))) cur)
     unfolding onTheWay around nextItem meet copiesIn readOf
-    ways zero i e cur A = record { clears = tt; copies = refl; came = ends refl }
+    ways zero i e cur A = record { clears = tt; copies = refl; came = ends (fromAddress (dataStart g (turn g old i))) refl }
     ways (suc k) i e cur A =
         let p : ℕ = turn g old i in
         let z : 2 * suc k ≡ suc (suc (2 * k)) = omega arith in

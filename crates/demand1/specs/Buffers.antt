@@ -77,8 +77,8 @@ ReadOf g hs (copy a n) = (h : Head) × List·Memᴰ h hs × (live h ≡ true) ×
 -- "The crate's LogicBug .. never arise[s]": the tests of next_inner, of reborrow and of write_raw
 pub record NoLogicBug : Type 0 where
   -- next_inner: only live headers are read, so none is read as erased
-  pub reads-live : (g : Geometry) (n : ℕ) (hs : List Head) (im : List ℕ) → Each (ReadOf g hs) (readHeads g n hs im .events)
-  pub not-erased : (g : Geometry) (n : ℕ) (hs : List Head) (im : List ℕ) (h : Head) → readHeads g n hs im .answer ≡ met h → live h ≡ true
+  pub reads-live : (g : Geometry) (n a : ℕ) (hs : List Head) (im : List ℕ) → Each (ReadOf g hs) (readHeads g n a hs im .events)
+  pub not-erased : (g : Geometry) (n a : ℕ) (hs : List Head) (im : List ℕ) (h : Head) → readHeads g n a hs im .answer ≡ met h → live h ≡ true
   -- reborrow: what is shown is no longer than the buffer
   pub reborrows : (g : Geometry) (im : List ℕ) (n k : ℕ) → peek g im n .answer ≡ shown k → k ≤ n
   pub reborrows-pop : (g : Geometry) (im : List ℕ) (n k : ℕ) → pop g im n .answer ≡ shown k → k ≤ n
