@@ -9,7 +9,7 @@ use lib.Seq.{take-append-le, take-take}
 use Rattle.paper.specs.declared.Geometry.{Geometry}
 use Rattle.paper.specs.Chip.{roundUp, headerSize, part, put, Event, erase, copy, imageBy, imageAfter, bufferBy, bufferAfter, Plan, plan, bind}
 use Rattle.paper.specs.Scan.{Head, payloads, present, live}
-use Rattle.paper.specs.Search.{Met, passed, long, met, readHeads}
+use Rattle.paper.specs.Search.{Met, passed, long, met, itemEnd, readHeads}
 use Rattle.laws.proofs.Events.{image-append, buffer-append}
 use Rattle.demand3.proofs.Events.{Avoids}
 use Rattle.demand3.proofs.Payloads.{not-present}
@@ -65,14 +65,14 @@ reads g h = copy (h .place + headerSize g) (roundUp (g .word) (h .len)) ∷ []
 
 pub data HeadsRead (g : Geometry) (n : ℕ) (hs : List Head) (m : Plan Met) : Type 0 where
   allPassed : (es : List Event) → m ≡ plan es passed → Copies es → payloads hs ≡ [] → HeadsRead g n hs m
-  tooSmall : (k : ℕ) (es : List Event) → m ≡ plan es (long k) → Copies es → HeadsRead g n hs m
+  tooSmall : (a k : ℕ) (es : List Event) → m ≡ plan es (long a k) → Copies es → HeadsRead g n hs m
   gotIt : (h : Head) (es : List Event) → m ≡ plan (es ++ reads g h) (met h) → Copies es
       → (pre post : List Head) → hs ≡ pre ++ (h ∷ post) → payloads pre ≡ [] → present h ≡ true → HeadsRead g n hs m
 
-pub heads-read : (g : Geometry) (n : ℕ) (hs : List Head) (im : List ℕ) → HeadsRead g n hs (readHeads g n hs im)
+pub heads-read : (g : Geometry) (n a : ℕ) (hs : List Head) (im : List ℕ) → HeadsRead g n hs (readHeads g n a hs im)
 unfolding readHeads payloads bind imageAfter imageBy
-heads-read g n [] im = allPassed [] refl noCopies refl
-heads-read g n (h ∷ hs) im = by (live h) (ltb n size) (present h) refl refl refl (heads-read g n hs im)
+heads-read g n a [] im = allPassed [] refl noCopies refl
+heads-read g n a (h ∷ hs) im = by (live h) (ltb n size) (present h) refl refl refl (λ a. heads-read g n a hs im)
   where
     size : ℕ
     size = roundUp (g .word) (h .len)
@@ -80,27 +80,28 @@ heads-read g n (h ∷ hs) im = by (live h) (ltb n size) (present h) refl refl re
     c : Event
     c = copy (h .place + headerSize g) size
 
-    r : Plan Met
-    r = readHeads g n hs im
+    r : ℕ → Plan Met
+    r a = readHeads g n a hs im
 
     after : Plan Met → Plan Met
     after p = plan (c ∷ p .events) (p .answer)
 
     -- it is not live
-    dead : present h ≡ false → HeadsRead g n hs r → HeadsRead g n (h ∷ hs) r
+    dead : {r : Plan Met} → present h ≡ false → HeadsRead g n hs r → HeadsRead g n (h ∷ hs) r
     dead q (allPassed es e x z) = allPassed es e x (rw q z)
-    dead q (tooSmall k es e x) = tooSmall k es e x
+    dead q (tooSmall a k es e x) = tooSmall a k es e x
     dead q (gotIt h₁ es e x pre post y i p) = gotIt h₁ es e x (h ∷ pre) post (ap (λ (l : List Head). h ∷ l) y) (rw q i) p
 
     -- it is torn
-    torn : present h ≡ false → HeadsRead g n hs r → HeadsRead g n (h ∷ hs) (after r)
+    torn : {r : Plan Met} → present h ≡ false → HeadsRead g n hs r → HeadsRead g n (h ∷ hs) (after r)
     torn q (allPassed es e x z) = allPassed (c ∷ es) (ap after e) (aCopy x) (rw q z)
-    torn q (tooSmall k es e x) = tooSmall k (c ∷ es) (ap after e) (aCopy x)
+    torn q (tooSmall a k es e x) = tooSmall a k (c ∷ es) (ap after e) (aCopy x)
     torn q (gotIt h₁ es e x pre post y i p) = gotIt h₁ (c ∷ es) (ap after e) (aCopy x) (h ∷ pre) post (ap (λ (l : List Head). h ∷ l) y) (rw q i) p
 
-    by : (l s p : Bool) → live h ≡ l → ltb n size ≡ s → present h ≡ p → HeadsRead g n hs r
-        → HeadsRead g n (h ∷ hs) (cond (not (live h)) r (cond (ltb n size) (plan [] (long size)) (cond (present h) (plan (c ∷ []) (met h)) (after r))))
-    by false s p ql qs qp R = rw ql (dead (not-present h ql) R)
-    by true true p ql qs qp R = rw (ql, qs) (tooSmall size [] refl noCopies)
+    by : (l s p : Bool) → live h ≡ l → ltb n size ≡ s → present h ≡ p → ((a : ℕ) → HeadsRead g n hs (r a))
+        → HeadsRead g n (h ∷ hs)
+        (cond (not (live h)) (r a) (cond (ltb n size) (plan [] (long a size)) (cond (present h) (plan (c ∷ []) (met h)) (after (r (itemEnd g h))))))
+    by false s p ql qs qp R = rw ql (dead (not-present h ql) (R a))
+    by true true p ql qs qp R = rw (ql, qs) (tooSmall a size [] refl noCopies)
     by true false true ql qs qp R = rw (ql, qs, qp) (gotIt h [] refl noCopies [] hs refl refl qp)
-    by true false false ql qs qp R = rw (ql, qs, qp) (torn qp R)
+    by true false false ql qs qp R = rw (ql, qs, qp) (torn qp (R (itemEnd g h)))

@@ -10,9 +10,9 @@ use lib.Dec.{eqb}
 use Rattle.paper.specs.declared.Geometry.{Geometry}
 use Rattle.paper.specs.declared.PageState.{PageState}
 use Rattle.paper.specs.declared.PageState.the-variants.{Open, PartialOpen, Closed, Corrupted}
-use Rattle.paper.specs.Chip.{erase, imageBy, imageAfter, Plan, plan, bind, Try, gives}
+use Rattle.paper.specs.Chip.{erase, imageBy, imageAfter, Plan, plan, bind, Try}
 use Rattle.paper.specs.Pages.{next, state, same}
-use Rattle.paper.specs.Search.{Stand, Outcome, nothing, leavePage}
+use Rattle.paper.specs.Search.{Stand, afterPage, nothing, Ended, endsAt, leavePage}
 use Rattle.laws.proofs.ErasePage.{erase-page-is}
 use Rattle.laws.proofs.Marks.{not-same}
 use Rattle.laws.proofs.Ring.{turn, turn-full, next-is}
@@ -22,16 +22,16 @@ use Rattle.demand3.proofs.Listed.{run}
 use Rattle.demand3.proofs.Invariant.{Inv, turn-in, open-empty}
 
 -- page x ends a search that began at page old
-abbrev pub endsAt : Geometry → List ℕ → ℕ → ℕ → Bool
-endsAt g jm x old = same (state g jm x) Open || eqb x old
+abbrev pub endsBefore : Geometry → List ℕ → ℕ → ℕ → Bool
+endsBefore g jm x old = same (state g jm x) Open || eqb x old
 
 -- no Closed page is before the current one, or that is Open
 abbrev pub Roomy : Geometry → List ℕ → ℕ → ℕ → Type 0
 Roomy g jm o b = (b ≡ 0) ⊎ (state g jm (turn g o b) ≡ Open)
 
 pub data Ahead (g : Geometry) (jm : List ℕ) (o b old : ℕ) : Type 0 where
-  stops : endsAt g jm (turn g o 1) old ≡ true → run g jm o 1 b ≡ [] → Roomy g jm o b → Ahead g jm o b old
-  leads : endsAt g jm (turn g o 1) old ≡ false → 0 < b → (state g jm (turn g o 1) ≡ Open → ⊥) → Ahead g jm o b old
+  stops : endsBefore g jm (turn g o 1) old ≡ true → run g jm o 1 b ≡ [] → Roomy g jm o b → Ahead g jm o b old
+  leads : endsBefore g jm (turn g o 1) old ≡ false → 0 < b → (state g jm (turn g o 1) ≡ Open → ⊥) → Ahead g jm o b old
 
 -- page old is none of the b pages after o
 pub record Behind (g : Geometry) (old o b : ℕ) : Type 0 where
@@ -79,12 +79,12 @@ module _ {g : Geometry} {jm : List ℕ} {o b : ℕ} (I : Inv g jm o b) {old : �
   next-sound : same (state g jm (turn g o 1)) Corrupted ≡ false
   next-sound = not-same (state g jm (turn g o 1)) Corrupted (sound g jm o b S (turn g o 1) (turn-in I 1 (omega (arith, S .run-in))))
 
-  pub leave-stop : (further : List ℕ → Plan (Try Stand Outcome)) → endsAt g jm (turn g o 1) old ≡ true
-      → leavePage g old true o further jm ≡ plan [] (gives nothing)
+  pub leave-stop : (further : List ℕ → Plan (Try Stand Ended)) → endsBefore g jm (turn g o 1) old ≡ true
+      → leavePage g old true o further jm ≡ endsAt (afterPage o) nothing
   unfolding leavePage
   leave-stop further s = rw (nx, next-sound, s)
 
-  pub leave-on : (further : List ℕ → Plan (Try Stand Outcome)) → endsAt g jm (turn g o 1) old ≡ false
+  pub leave-on : (further : List ℕ → Plan (Try Stand Ended)) → endsBefore g jm (turn g o 1) old ≡ false
       → leavePage g old true o further jm ≡ plan (erase o ∷ further (imageBy g (erase o) jm) .events) (further (imageBy g (erase o) jm) .answer)
   unfolding leavePage bind imageAfter
   leave-on further s = rw (nx, next-sound, s, erase-page-is g o)

@@ -7,10 +7,10 @@ use native.Mathlib.Omega.{arith}
 use lib.ListN.{length, take, drop, length-take}
 use Rattle.paper.specs.declared.Geometry.{Geometry}
 use Rattle.paper.specs.declared.PageState.the-variants.{Open}
-use Rattle.paper.specs.Chip.{roundUp, headerSize, dataStart, part, Event, erase, imageBy, imageAfter, bufferAfter, Plan, plan, bind, Try, gives, settled}
+use Rattle.paper.specs.Chip.{roundUp, headerSize, dataStart, part, Event, erase, imageBy, imageAfter, bufferAfter, Plan, plan, bind, Try, gives}
 use Rattle.paper.specs.Scan.{Head, Walk, pageWalk, payloads, present}
 use Rattle.paper.specs.Pages.{next, state}
-use Rattle.paper.specs.Search.{passed, long, met, readHeads, Stand, fromAddress, afterPage, Outcome, nothing, short, this, spoilt, onMet, leavePage, nextItem, nextStep, startStep, searchOn, search}
+use Rattle.paper.specs.Search.{passed, long, met, itemEnd, readHeads, Stand, fromAddress, afterPage, standAt, Outcome, nothing, short, this, Ended, onMet, leavePage, nextItem, nextStep, startStep, outcomeOf, searchOn, search}
 use Rattle.paper.specs.Waiting.{waiting}
 use Rattle.laws.proofs.Events.{image-append, buffer-append}
 use Rattle.laws.proofs.Ring.{turn, turn-zero, turn-suc, turn-apart, next-is}
@@ -25,7 +25,7 @@ use Rattle.demand3.proofs.Invariant.{Inv, listed}
 use Rattle.demand3.proofs.Erasing.{erase-inv, erase-list}
 use Rattle.demand3.proofs.Steady.{Keeps, Steady, rests, goes, erased, steady-append}
 use Rattle.demand3.proofs.Copies.{Copies, noCopies, aCopy, copies-append, copies-image, copies-steady, copies-avoid, image-on, buffer-on, last-copy, reads, HeadsRead, allPassed, tooSmall, gotIt, heads-read}
-use Rattle.demand3.proofs.NextPage.{endsAt, Roomy, Ahead, stops, leads, Behind, ahead, leave-stop, leave-on}
+use Rattle.demand3.proofs.NextPage.{endsBefore, Roomy, Ahead, stops, leads, Behind, ahead, leave-stop, leave-on}
 use Rattle.demand3.proofs.Popping.{FirstPresent, first-in, not-empty, body-at, body-length}
 
 -- the events es have come from the image jm to the first present item h, and shown it
@@ -50,15 +50,15 @@ pub data Result (g : Geometry) (q : List (List ℕ)) (jm : List ℕ) (n : ℕ) (
   isThis : (h : Head) → out ≡ this h → Found g jm es h → Result g q jm n es out
 
 -- the search from page p's first item on
-abbrev fromPage : Geometry → ℕ → ℕ → ℕ → ℕ → List ℕ → Plan (Try Stand Outcome)
+abbrev fromPage : Geometry → ℕ → ℕ → ℕ → ℕ → List ℕ → Plan (Try Stand Ended)
 fromPage g n old k p = nextItem g n old true k (fromAddress (dataStart g p))
 
-record Finds (g : Geometry) (q : List (List ℕ)) (jm : List ℕ) (n : ℕ) (p : Plan (Try Stand Outcome)) : Type 0 where
+record Finds (g : Geometry) (q : List (List ℕ)) (jm : List ℕ) (n : ℕ) (p : Plan (Try Stand Ended)) : Type 0 where
   events : List Event
-  out : Outcome
+  out : Ended
   is : p ≡ plan events (gives out)
   steady : Steady g q jm events
-  result : Result g q jm n events out
+  result : Result g q jm n events (out .outcome)
 
 -- ---- page o is read, by copies alone
 
@@ -67,11 +67,12 @@ module _ {g : Geometry} {jm : List ℕ} {o b : ℕ} (I : Inv g jm o b) {old : �
   S = I .shape
 
   module _ (n : ℕ) (q : List (List ℕ)) (l : waiting g jm ≡ q) (es : List Event) (c : Copies es) where
-    abbrev onward : ℕ → List ℕ → Plan (Try Stand Outcome)
+    abbrev onward : ℕ → List ℕ → Plan (Try Stand Ended)
     onward k = fromPage g n old k (next g o)
 
     read-here : (k : ℕ)
-        → fromPage g n old (suc k) o jm ≡ bind g jm (readHeads g n (pageWalk g jm o .heads) jm) (onMet (nextItem g n old true k (afterPage o)))
+        → fromPage g n old (suc k) o jm
+        ≡ bind g jm (readHeads g n (dataStart g o) (pageWalk g jm o .heads) jm) (onMet g o (nextItem g n old true k (afterPage o)))
     read-here k = read-start g (omega (arith, I .good)) n old true k o jm
 
     K : Keeps g q jm
@@ -81,20 +82,20 @@ module _ {g : Geometry} {jm : List ℕ} {o b : ℕ} (I : Inv g jm o b) {old : �
     same-image = copies-image g jm c
 
     -- all its heads were passed
-    module _ (k : ℕ) (e : readHeads g n (pageWalk g jm o .heads) jm ≡ plan es passed) (none-here : presentIn g jm o ≡ []) where
-      passed-on : {fs : List Event} {a : Try Stand Outcome} → leavePage g old true o (onward k) jm ≡ plan fs a
+    module _ (k : ℕ) (e : readHeads g n (dataStart g o) (pageWalk g jm o .heads) jm ≡ plan es passed) (none-here : presentIn g jm o ≡ []) where
+      passed-on : {fs : List Event} {a : Try Stand Ended} → leavePage g old true o (onward k) jm ≡ plan fs a
           → fromPage g n old (suc (suc k)) o jm ≡ plan (es ++ fs) a
       unfolding nextItem onMet
-      passed-on f = read-here (suc k) ∙ bind-known g jm (onMet (nextItem g n old true (suc k) (afterPage o))) e
+      passed-on f = read-here (suc k) ∙ bind-known g jm (onMet g o (nextItem g n old true (suc k) (afterPage o))) e
           ∙ ap (λ (x : List ℕ). plan (es ++ leavePage g old true o (onward k) x .events) (leavePage g old true o (onward k) x .answer)) same-image
-          ∙ ap (λ (p : Plan (Try Stand Outcome)). plan (es ++ p .events) (p .answer)) f
+          ∙ ap (λ (p : Plan (Try Stand Ended)). plan (es ++ p .events) (p .answer)) f
 
       -- the next page ends the search
-      stop-here : endsAt g jm (turn g o 1) old ≡ true → run g jm o 1 b ≡ [] → Roomy g jm o b → Finds g q jm n (fromPage g n old (suc (suc k)) o jm)
+      stop-here : endsBefore g jm (turn g o 1) old ≡ true → run g jm o 1 b ≡ [] → Roomy g jm o b → Finds g q jm n (fromPage g n old (suc (suc k)) o jm)
       unfolding run imageAfter
       stop-here s r t = record {
         events = es ++ [];
-        out = nothing;
+        out = record { stand = afterPage o; outcome = nothing };
         is = passed-on (leave-stop I F (onward k) s);
         steady = steady-append (copies-steady K c) (rw same-image (rests K));
         result = isNothing refl (sym l ∙ listed I
@@ -103,7 +104,7 @@ module _ {g : Geometry} {jm : List ℕ} {o b : ℕ} (I : Inv g jm o b) {old : �
       }
 
       -- page o is erased, and the search goes on
-      go-on : endsAt g jm (turn g o 1) old ≡ false → 0 < b
+      go-on : endsBefore g jm (turn g o 1) old ≡ false → 0 < b
           → Finds g q (imageBy g (erase o) jm) n (fromPage g n old k (turn g o 1) (imageBy g (erase o) jm))
           → Finds g q jm n (fromPage g n old (suc (suc k)) o jm)
       go-on s z R = record {
@@ -117,7 +118,7 @@ module _ {g : Geometry} {jm : List ℕ} {o b : ℕ} (I : Inv g jm o b) {old : �
           km : List ℕ
           km = imageBy g (erase o) jm
 
-          then : Plan (Try Stand Outcome) → Plan (Try Stand Outcome)
+          then : Plan (Try Stand Ended) → Plan (Try Stand Ended)
           then p = plan (erase o ∷ p .events) (p .answer)
 
           is-image : imageAfter g (es ++ (erase o ∷ R .events)) jm ≡ imageAfter g (R .events) km
@@ -136,7 +137,7 @@ module _ {g : Geometry} {jm : List ℕ} {o b : ℕ} (I : Inv g jm o b) {old : �
                 as-it-was = rw is-image (x .as-it-was ∙ walk-other (erase-changed jm (I .good) o (S .old-in)) p (first-in (x .first)) ne);
               }
 
-          by : Result g q km n (R .events) (R .out) → Result g q jm n (es ++ (erase o ∷ R .events)) (R .out)
+          by : Result g q km n (R .events) (R .out .outcome) → Result g q jm n (es ++ (erase o ∷ R .events)) (R .out .outcome)
           by (isNothing a x t) = isNothing a x (record {
             old = t .old;
             runs = t .runs;
@@ -148,26 +149,26 @@ module _ {g : Geometry} {jm : List ℕ} {o b : ℕ} (I : Inv g jm o b) {old : �
           by (isThis h a x) = isThis h a (found h x)
 
     -- a live header is too long for the buffer
-    read-short : (k m : ℕ) → readHeads g n (pageWalk g jm o .heads) jm ≡ plan es (long m)
+    read-short : (k a m : ℕ) → readHeads g n (dataStart g o) (pageWalk g jm o .heads) jm ≡ plan es (long a m)
         → Finds g q jm n (fromPage g n old (suc k) o jm)
     unfolding onMet
-    read-short k m e = record {
+    read-short k a m e = record {
       events = es;
-      out = short m;
-      is = read-here k ∙ bind-last g jm (onMet (nextItem g n old true k (afterPage o))) e refl;
+      out = record { stand = fromAddress a; outcome = short m };
+      is = read-here k ∙ bind-last g jm (onMet g o (nextItem g n old true k (afterPage o))) e refl;
       steady = copies-steady K c;
       result = isShort m refl;
     }
 
     -- the first present item is in page o
-    found-here : (k : ℕ) (h : Head) → readHeads g n (pageWalk g jm o .heads) jm ≡ plan (es ++ reads g h) (met h)
+    found-here : (k : ℕ) (h : Head) → readHeads g n (dataStart g o) (pageWalk g jm o .heads) jm ≡ plan (es ++ reads g h) (met h)
         → (pre post : List Head) → pageWalk g jm o .heads ≡ pre ++ (h ∷ post) → payloads pre ≡ [] → present h ≡ true
         → Finds g q jm n (fromPage g n old (suc k) o jm)
     unfolding onMet
     found-here k h e pre post hs ip ph = record {
       events = es ++ reads g h;
-      out = this h;
-      is = read-here k ∙ bind-last g jm (onMet (nextItem g n old true k (afterPage o))) e refl;
+      out = record { stand = standAt g o (itemEnd g h); outcome = this h };
+      is = read-here k ∙ bind-last g jm (onMet g o (nextItem g n old true k (afterPage o))) e refl;
       steady = copies-steady K d;
       result = isThis h refl (record { first = rw ia first; shown = shown; unerased = copies-avoid o d; as-it-was = rw ia });
     }
@@ -205,17 +206,17 @@ finds : {g : Geometry} (n old : ℕ) {q : List (List ℕ)} (k : ℕ) {jm : List 
     → Finds g q jm n (fromPage g n old k o jm)
 finds n old zero I l h F = let z : ⊥ = omega arith in absurd z
 finds n old (suc zero) I l h F = let z : ⊥ = omega arith in absurd z
-finds {g} n old {q} (suc (suc k)) {jm} {o} {b} I l h F = by (heads-read g n (pageWalk g jm o .heads) jm) (ahead I F)
+finds {g} n old {q} (suc (suc k)) {jm} {o} {b} I l h F = by (heads-read g n (dataStart g o) (pageWalk g jm o .heads) jm) (ahead I F)
     (λ z ne e. finds n old k (erase-inv I z ne) (erase-list I z ne e ∙ l) (omega arith) (record {
       apart = λ i h₁ h₂ x. F .apart (suc i) (omega arith) (omega arith) (sym (turn-suc g o i (I .shape .old-in) (omega (arith, I .shape .run-in))) ∙ x);
       sole = λ one. let w : ⊥ = omega (arith, I .shape .run-in) in absurd w;
     }))
   where
-    by : HeadsRead g n (pageWalk g jm o .heads) (readHeads g n (pageWalk g jm o .heads) jm) → Ahead g jm o b old
+    by : HeadsRead g n (pageWalk g jm o .heads) (readHeads g n (dataStart g o) (pageWalk g jm o .heads) jm) → Ahead g jm o b old
         → (0 < b → (state g jm (turn g o 1) ≡ Open → ⊥) → presentIn g jm o ≡ []
         → Finds g q (imageBy g (erase o) jm) n (fromPage g n old k (turn g o 1) (imageBy g (erase o) jm)))
         → Finds g q jm n (fromPage g n old (suc (suc k)) o jm)
-    by (tooSmall m es e c) A rec = read-short I F n q l es c (suc k) m e
+    by (tooSmall a m es e c) A rec = read-short I F n q l es c (suc k) a m e
     by (gotIt h₁ es e c pre post hs ip ph) A rec = found-here I F n q l es c (suc k) h₁ e pre post hs ip ph
     by (allPassed es e c p) (stops s r t) rec = stop-here I F n q l es c k e p s r t
     by (allPassed es e c p) (leads s z ne) rec = go-on I F n q l es c k e p s z (rec z ne p)
@@ -236,9 +237,9 @@ searched {g} {im} {o} {b} I n =
     let R = finds n o (2 * g .pages) I refl (omega (arith, S .run-in)) F in
     record {
       events = R .events;
-      out = R .out;
+      out = R .out .outcome;
       is = bind-first g im (searchOn g n) (no-repair g im (startStep g) tt (ap (λ (t : Try Unit ℕ). plan [] t) (oldest-is g im o b S)))
-          ∙ bind-last g im (λ t im₁. plan [] (settled spoilt t)) (no-repair g im (nextStep g n o true) (fromAddress (dataStart g o)) (R .is)) refl;
+          ∙ bind-last g im (λ t im₁. plan [] (outcomeOf t)) (no-repair g im (nextStep g n o true) (fromAddress (dataStart g o)) (R .is)) refl;
       steady = R .steady;
       result = R .result;
     }
