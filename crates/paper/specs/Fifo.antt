@@ -3,7 +3,7 @@ use mathlib.Core.Path.{_≡_}
 use mathlib.Core.Bool.{Bool, true, false, cond, _&&_}
 use mathlib.Core.List.{List, [], _∷_, _++_, tail, List·Memᴰ}
 use mathlib.Core.Logic.{_⊎_}
-use Prim.Native.Nat.{ℕ, suc, _+_, _≤_, _<_}
+use Prim.Native.Nat.{ℕ, _+_, _≤_, _<_}
 use lib.Dec.{leb, ltb}
 use lib.ListN.{length, take, replicate}
 use Rattle.paper.specs.declared.Shape.{Shape}
@@ -105,7 +105,7 @@ unfoldable pub outside : Geometry → ℕ → List ℕ → List ℕ
 outside g p [] = []
 outside g p (a ∷ l) =
     let later = outside g p l in
-    cond (leb (pageStart g p) a && ltb a (pageStart g (suc p))) later (a ∷ later)
+    cond (leb (pageStart g p) a && ltb a (pageStart g p + g .page)) later (a ∷ later)
 
 unfoldable pub kept : Geometry → List Event → List ℕ → List ℕ
 kept g [] l = l
