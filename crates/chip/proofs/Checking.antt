@@ -9,7 +9,7 @@ use Rattle.paper.specs.declared.Geometry.{Geometry}
 use Rattle.paper.specs.declared.Shape.{Shape}
 use Rattle.paper.specs.declared.Checked.{Checked}
 use Rattle.paper.specs.declared.Checked.the-variants.{Accepted, Refused}
-use Rattle.paper.specs.Chip.{headerSize, pageStart}
+use Rattle.paper.specs.Chip.{headerSize, rangeEnd}
 use Rattle.paper.specs.Refusals.{Rule, judge, check, geometryOf}
 use Rattle.laws.proofs.Accepted.{Laid, accepted-from}
 use Rattle.laws.proofs.Rounding.{header-in}
@@ -32,7 +32,7 @@ accepts s = refl
 
 -- ---- a geometry that was accepted
 
-laid-within : {g : Geometry} {n : ℕ} → Laid g n → pageStart g (g .pages) < addressLimit → Within g n
+laid-within : {g : Geometry} {n : ℕ} → Laid g n → rangeEnd g < addressLimit → Within g n
 unfolding headerSize
 laid-within {g} L top =
     let h = header-in (g .word) (L .low) (L .high) in

@@ -5,7 +5,7 @@ use Rattle.paper.specs.declared.Shape.{Shape}
 use Rattle.paper.specs.declared.Geometry.{Geometry}
 use Rattle.paper.specs.declared.Checked.{Checked}
 use Rattle.paper.specs.declared.Checked.the-variants.{Accepted}
-use Rattle.paper.specs.Chip.{roundUp, headerSize, pageStart}
+use Rattle.paper.specs.Chip.{roundUp, headerSize, rangeEnd}
 use Rattle.paper.specs.Refusals.{check, wordLimit, pageLimit, pageCountLimit}
 
 -- addresses and counts fit a u32: the code writes this number out
@@ -21,7 +21,7 @@ pub record Good (g : Geometry) : Type 0 where
   pub small : g .page ≤ pageLimit
   pub some : 0 < g .pages
   pub few : g .pages ≤ pageCountLimit
-  pub top : pageStart g (g .pages) < addressLimit
+  pub top : rangeEnd g < addressLimit
   -- these three follow from the first two; they stand here as bounds of a definition that stays shut
   pub header-low : 8 ≤ headerSize g
   pub header-high : headerSize g ≤ wordLimit
@@ -30,7 +30,7 @@ pub record Good (g : Geometry) : Type 0 where
 -- a good geometry whose range lies in an image of n bytes
 pub record Within (g : Geometry) (n : ℕ) : Type 0 where
   pub good : Good g
-  pub ends : pageStart g (g .pages) ≤ n
+  pub ends : rangeEnd g ≤ n
 
 -- what checking a shape over an image of n bytes promises
 pub record Checks (n : ℕ) (s : Shape) (r : Checked) : Type 0 where

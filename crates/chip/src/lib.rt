@@ -4,7 +4,7 @@ ghost use mathlib.Core.Path.{_≡_};
 ghost use mathlib.Core.List.{[], _∷_, _++_};
 ghost use Prim.Native.Nat.{min, _+_, _≤_, _<_};
 ghost use lib.ListN.{length, take, drop, replicate};
-ghost use Rattle.paper.specs.Chip.{Event, roundUp, roundDown, headerSize, pageStart, dataStart, dataSize, dataEnd, pageOf, writes, erasePage};
+ghost use Rattle.paper.specs.Chip.{Event, roundUp, roundDown, headerSize, pageStart, rangeEnd, dataStart, dataSize, dataEnd, pageOf, writes, erasePage};
 ghost use Rattle.paper.specs.Refusals.{wordLimit, allowedWord, rules, judge};
 ghost use Rattle.chip.specs.Within.{Good, Within, Checks, RoundedUp};
 ghost use Rattle.chip.specs.Run.{spend, Did};
@@ -150,7 +150,7 @@ pub fn calculate_page_end_address(g: Geometry, p: Page) -> Address
 
 // The page that an address of the range lies in.
 pub fn calculate_page_index(g: Geometry, address: Address) -> Page
-    requires { ⌜ Good g × (g .start ≤ address .0) × (address .0 < pageStart g (g .pages)) ⌝ }
+    requires { ⌜ Good g × (g .start ≤ address .0) × (address .0 < rangeEnd g) ⌝ }
     ensures { λ r. ⌜ (r .0 ≡ pageOf g (address .0)) × (r .0 < g .pages) ⌝ }
 {
     Page((address.0 - g.start) / g.page)

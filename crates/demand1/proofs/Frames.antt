@@ -6,7 +6,7 @@ use native.Mathlib.Omega.{arith}
 use lib.ListN.{length, drop, replicate, length-replicate, length-drop}
 use Rattle.paper.specs.declared.Geometry.{Geometry}
 use Rattle.paper.specs.declared.PageState.the-variants.{Open, PartialOpen}
-use Rattle.paper.specs.Chip.{pageStart, dataStart, dataSize, dataEnd, pageBytes, pageData, part, put, erasePage, imageBy, imageAfter}
+use Rattle.paper.specs.Chip.{pageStart, rangeEnd, dataStart, dataSize, dataEnd, pageBytes, pageData, part, put, erasePage, imageBy, imageAfter}
 use Rattle.paper.specs.Scan.{walk, pageWalk}
 use Rattle.paper.specs.Pages.{isSet, startMark, endMark, state, setStart}
 use Rattle.laws.proofs.Accepted.{Laid}
@@ -21,7 +21,7 @@ use Rattle.demand1.proofs.Pages.{layout}
 -- ---- one event
 
 module _ {g : Geometry} {n : ℕ} (S : Laid g n) (im : List ℕ) (long : length im ≡ n) where
-  inside : pageStart g (g .pages) ≤ length im
+  inside : rangeEnd g ≤ length im
   inside = omega (arith, S .ends)
 
   -- bytes put into page q leave every other page

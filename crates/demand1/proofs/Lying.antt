@@ -5,7 +5,7 @@ use Prim.Native.Nat.{ℕ, _+_, _-_, _*_, _≤_, _<_}
 use native.Mathlib.Omega.{arith}
 use lib.ListN.{length, take, drop, replicate, length-drop, length-replicate}
 use Rattle.paper.specs.declared.Geometry.{Geometry}
-use Rattle.paper.specs.Chip.{pageStart, pageBytes, part, Event, store, erase, copy, put, ands, imageBy, imageAfter, bufferBy, bufferAfter}
+use Rattle.paper.specs.Chip.{pageStart, rangeEnd, pageBytes, part, Event, store, erase, copy, put, ands, imageBy, imageAfter, bufferBy, bufferAfter}
 use Rattle.laws.proofs.Accepted.{Laid}
 use Rattle.laws.proofs.Ands.{ands-length, ands-take}
 use Rattle.laws.proofs.Parts.{parts-same}
@@ -21,7 +21,7 @@ range g im = part (g .start) (g .pages * g .page) im
 -- two images that hold the range and agree on it; n is the length of the first
 pub record Alike (g : Geometry) (n : ℕ) (im jm : List ℕ) : Type 0 where
   pub long : length im ≡ n
-  pub also : pageStart g (g .pages) ≤ length jm
+  pub also : rangeEnd g ≤ length jm
   pub same : range g im ≡ range g jm
 
 -- what an event does to two images: both get the same bytes in the same place of the range
@@ -31,20 +31,20 @@ record Puts (g : Geometry) (e : Event) (im jm : List ℕ) : Type 0 where
   pub one : imageBy g e im ≡ put place bytes im
   pub two : imageBy g e jm ≡ put place bytes jm
   pub low : g .start ≤ place
-  pub high : place + length bytes ≤ pageStart g (g .pages)
+  pub high : place + length bytes ≤ rangeEnd g
 
 -- what events leave as it was
 pub record Frame (g : Geometry) (im jm : List ℕ) : Type 0 where
   pub size : length jm ≡ length im
   pub below : take (g .start) jm ≡ take (g .start) im
-  pub above : (m : ℕ) → pageStart g (g .pages) ≤ m → drop m jm ≡ drop m im
+  pub above : (m : ℕ) → rangeEnd g ≤ m → drop m jm ≡ drop m im
 
-pub range-end : (g : Geometry) → pageStart g (g .pages) ≡ g .start + g .pages * g .page
-unfolding pageStart
+pub range-end : (g : Geometry) → rangeEnd g ≡ g .start + g .pages * g .page
+unfolding rangeEnd
 range-end g = refl
 
 module _ {g : Geometry} {n : ℕ} (S : Laid g n) where
-  alike-part : (im jm : List ℕ) → Alike g n im jm → (a m : ℕ) → g .start ≤ a → a + m ≤ pageStart g (g .pages) → part a m im ≡ part a m jm
+  alike-part : (im jm : List ℕ) → Alike g n im jm → (a m : ℕ) → g .start ≤ a → a + m ≤ rangeEnd g → part a m im ≡ part a m jm
   alike-part im jm A a m l h = parts-same (g .start) (g .pages * g .page) im jm (A .same) a m l (omega (arith, range-end g))
 
   pub alike-page : (im jm : List ℕ) → Alike g n im jm → (p : ℕ) → p < g .pages → pageBytes g im p ≡ pageBytes g jm p
@@ -91,7 +91,7 @@ module _ {g : Geometry} {n : ℕ} (S : Laid g n) where
         let z : g .start + s ≡ P .place = omega (arith, P .low) in
         let k : P .place + length (P .bytes) ≤ length im = omega (arith, P .high, S .ends, A .long) in
         let l : P .place + length (P .bytes) ≤ length jm = omega (arith, P .high, A .also) in
-        let at : (x : List ℕ) → pageStart g (g .pages) ≤ length x → range g (put (P .place) (P .bytes) x) ≡ put s (P .bytes) (range g x) =
+        let at : (x : List ℕ) → rangeEnd g ≤ length x → range g (put (P .place) (P .bytes) x) ≡ put s (P .bytes) (range g x) =
         λ x h. ap (λ (a : ℕ). range g (put a (P .bytes) x)) (sym z)
         ∙ part-around (g .start) (g .pages * g .page) s (P .bytes) x (omega (arith, range-end g, h)) (omega (arith, range-end g, P .high, P .low)) in
         record {

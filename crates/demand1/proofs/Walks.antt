@@ -8,7 +8,7 @@ use native.Mathlib.Omega.{arith}
 use borrow.Author.Tests.{leb-true}
 use lib.ListN.{length}
 use Rattle.paper.specs.declared.Geometry.{Geometry}
-use Rattle.paper.specs.Chip.{roundUp, roundDown, headerSize, pageStart, dataStart, dataSize, dataEnd, pageOf, pageData, part}
+use Rattle.paper.specs.Chip.{roundUp, roundDown, headerSize, rangeEnd, dataStart, dataSize, dataEnd, pageOf, pageData, part}
 use Rattle.paper.specs.Slip.{Look, stop, bad, item, look}
 use Rattle.paper.specs.Scan.{Head, Walk, onward, walk, pageWalk, walkOn, freeSpot, serves}
 use Rattle.laws.proofs.Accepted.{Laid}
@@ -74,7 +74,7 @@ module _ (g : Geometry) (low : 0 < g .word) (lo hi : ℕ) (whole : g .word ∣ h
 pub record Room (g : Geometry) (a n : ℕ) : Type 0 where
   pub aligned : g .word ∣ a
   pub low : g .start ≤ a
-  pub high : a + (headerSize g + roundUp (g .word) n) ≤ pageStart g (g .pages)
+  pub high : a + (headerSize g + roundUp (g .word) n) ≤ rangeEnd g
 
 -- a header has room for its item
 abbrev pub Placed : Geometry → Head → Type 0

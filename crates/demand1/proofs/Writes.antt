@@ -6,7 +6,7 @@ use native.Mathlib.Omega.{arith}
 use lib.ListN.{length, drop, length-replicate}
 use Rattle.paper.specs.declared.Geometry.{Geometry}
 use Rattle.paper.specs.Checksum.{dataCrc}
-use Rattle.paper.specs.Chip.{wordsFor, roundUp, headerSize, pageStart, words, writes}
+use Rattle.paper.specs.Chip.{wordsFor, roundUp, headerSize, rangeEnd, words, writes}
 use Rattle.paper.specs.Slip.{encode}
 use Rattle.paper.specs.Pages.{setStart, setEnd}
 use Rattle.paper.specs.Push.{itemAt}
@@ -32,7 +32,7 @@ module _ {g : Geometry} {n : ℕ} (S : Laid g n) where
       let L = layout S p in
       (length-replicate (g .word) 0, mod-eq-zero-of-dvd (g .word) (L .end-whole), omega arith, omega (arith, page-in g p h))
 
-  words-lie : (k a : ℕ) (bytes : List ℕ) → g .word ∣ a → g .start ≤ a → a + k * g .word ≤ pageStart g (g .pages) → Each (Lies g) (words (g .word) k a bytes)
+  words-lie : (k a : ℕ) (bytes : List ℕ) → g .word ∣ a → g .start ≤ a → a + k * g .word ≤ rangeEnd g → Each (Lies g) (words (g .word) k a bytes)
   unfolding words
   words-lie zero a bytes v l h = tt
   words-lie (suc k) a bytes v l h =
@@ -41,7 +41,7 @@ module _ {g : Geometry} {n : ℕ} (S : Laid g n) where
         words-lie k (a + g .word) (drop (g .word) bytes) (dvd-add (g .word) v (dvd-refl (g .word))) (omega arith) (omega arith),
       )
 
-  writes-lie : (a : ℕ) (bytes : List ℕ) → g .word ∣ a → g .start ≤ a → a + roundUp (g .word) (length bytes) ≤ pageStart g (g .pages)
+  writes-lie : (a : ℕ) (bytes : List ℕ) → g .word ∣ a → g .start ≤ a → a + roundUp (g .word) (length bytes) ≤ rangeEnd g
       → Each (Lies g) (writes g a bytes)
   unfolding writes roundUp
   writes-lie a bytes v l h = words-lie (wordsFor (g .word) (length bytes)) a bytes v l h

@@ -6,16 +6,16 @@ use lib.ListN.{length, take, drop}
 use Rattle.paper.specs.declared.Shape.{Shape}
 use Rattle.paper.specs.declared.Checked.the-variants.{Accepted}
 use Rattle.paper.specs.declared.Geometry.{Geometry}
-use Rattle.paper.specs.Chip.{pageStart, part, Event, store, erase, copy, imageAfter, bufferAfter}
+use Rattle.paper.specs.Chip.{rangeEnd, part, Event, store, erase, copy, imageAfter, bufferAfter}
 use Rattle.paper.specs.Refusals.{geometryOf, check}
 use Rattle.paper.specs.Calls.{Call, planOf, requested, limited}
 pub use Rattle.paper.specs.Ways.{Each}
 
 -- "Each store touches one word or one page": one aligned word inside the range; one page of it; a copy reads inside the range
 abbrev pub Lies : Geometry → Event → Type 0
-Lies g (store a word) = (length word ≡ g .word) × (a % g .word ≡ 0) × (g .start ≤ a) × (a + g .word ≤ pageStart g (g .pages))
+Lies g (store a word) = (length word ≡ g .word) × (a % g .word ≡ 0) × (g .start ≤ a) × (a + g .word ≤ rangeEnd g)
 Lies g (erase p) = p < g .pages
-Lies g (copy a n) = (g .start ≤ a) × (a + n ≤ pageStart g (g .pages))
+Lies g (copy a n) = (g .start ≤ a) × (a + n ≤ rangeEnd g)
 
 -- "Bytes outside the stated range never change": i before, o afterwards
 pub record Outside (s : Shape) (i o : List ℕ) : Type 0 where

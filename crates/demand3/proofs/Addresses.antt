@@ -6,10 +6,10 @@ use Prim.Native.Nat.{ℕ, _<_}
 use lib.Dec.{eqb}
 use Rattle.paper.specs.declared.Geometry.{Geometry}
 use Rattle.paper.specs.declared.PageState.the-variants.{Open}
-use Rattle.paper.specs.Chip.{Try, fails, gives}
+use Rattle.paper.specs.Chip.{Try, fails, gives, onGiven, settled}
 use Rattle.paper.specs.Scan.{Head, pageWalk, present, payloads}
 use Rattle.paper.specs.Pages.{state, same, next, from, youngest, oldest}
-use Rattle.paper.specs.Waiting.{waitingOn, waitingFrom, waiting}
+use Rattle.paper.specs.Waiting.{waitingOn, listOf, waiting}
 use Rattle.paper.specs.Ways.{Each}
 use Rattle.demand1.proofs.Lists.{each-append, each-weaker}
 use Rattle.demand1.proofs.Pages.{from-in}
@@ -56,14 +56,15 @@ payloads-on g im y (p ∷ ps) =
     by true e = refl
     by false e = e
 
-payloads-from : (g : Geometry) (im : List ℕ) (o y : Try Unit ℕ) → payloads (waitingHeadsFrom g im o y) ≡ waitingFrom g im o y
+payloads-from : (g : Geometry) (im : List ℕ) (o y : Try Unit ℕ)
+    → payloads (waitingHeadsFrom g im o y) ≡ settled [] (onGiven o (λ p. onGiven y (λ q. gives (waitingOn g im q (from g p)))))
 unfolding payloads
 payloads-from g im (fails u) y = refl
 payloads-from g im (gives o) (fails u) = refl
 payloads-from g im (gives o) (gives y) = payloads-on g im y (from g o)
 
 pub payloads-waiting : (g : Geometry) (im : List ℕ) → payloads (waitingHeads g im) ≡ waiting g im
-unfolding waitingHeads waiting
+unfolding waitingHeads waiting listOf
 payloads-waiting g im = payloads-from g im (oldest g im) (youngest g im)
 
 -- ---- each is present in a page

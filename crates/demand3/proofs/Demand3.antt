@@ -14,6 +14,7 @@ use Rattle.paper.specs.Fifo.{Power, whole, cutAfter, eventsOf, imageNext, Ghost
 use Rattle.laws.proofs.Accepted.{accepted-from}
 use Rattle.laws.proofs.Ring.{pages-only}
 use Rattle.demand3.specs.Claims.{LiteralEnough}
+use Rattle.demand3.proofs.Listed.{list-there}
 use Rattle.demand3.proofs.Views.{view, erasedView, erased-view}
 use Rattle.demand3.proofs.Invariant.{Inv, quiet-walk}
 use Rattle.demand3.proofs.ErasedRange.{fresh-inv, fresh-list, fresh-heads}
@@ -97,6 +98,7 @@ held (further c w r F) = hold-on (held r) c w F
 pub demand3 : Demand3
 demand3 = record {
   starts = λ g im s a e. let G = accepted-from (length im) s g a .laid in fresh-list im G (λ p h. erased-view im G p (e p h));
+  lists = λ g im gh r. let H = held r in list-there g im (H .old) (H .runs) (H .inv .shape);
   behaves = λ g im gh r c w F. step-of (held r .inv) gh c w F .claim;
   begun = λ g im gh r. held r .begun;
   noFalse = λ g im gh r wide.

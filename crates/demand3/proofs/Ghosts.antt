@@ -3,7 +3,7 @@ use mathlib.Core.Bool.{Bool, true, false, cond, _&&_}
 use mathlib.Core.List.{List, [], _∷_, _++_, List·Memᴰ, List·Memᴰ·head, List·Memᴰ·tail, List·Memᴰ·cases-cons, List·Memᴰ·not-nil, Memᴰ·append-left, Memᴰ·append-right}
 use mathlib.Core.Logic.{_⊎_, inl, inr}
 use mathlib.Core.Path.{_≡_, refl, ap, subst}
-use Prim.Native.Nat.{ℕ, suc, _+_, _≤_, _<_}
+use Prim.Native.Nat.{ℕ, _+_, _≤_, _<_}
 use native.Mathlib.Omega.{arith}
 use borrow.Author.Tests.{leb-true, ltb-true}
 use lib.Dec.{leb, ltb}
@@ -14,7 +14,7 @@ use Rattle.paper.specs.Scan.{Head, Walk, pageWalk}
 use Rattle.paper.specs.Pages.{allPages}
 use Rattle.paper.specs.Fifo.{Ghost, kept, outside, refusals, Accepts}
 use Rattle.laws.proofs.Accepted.{Laid, Word, four, wide}
-use Rattle.laws.proofs.Places.{page-next, page-below}
+use Rattle.laws.proofs.Places.{page-below}
 use Rattle.laws.proofs.Ring.{all-pages}
 use Rattle.laws.proofs.Sides.{Side, below, above, side}
 use Rattle.laws.proofs.Headers.{header-word, header-ge}
@@ -92,17 +92,17 @@ page-range {g} im G p hp x c =
 
 -- ---- what is kept
 
-outside-keeps : (g : Geometry) (p x : ℕ) (l : List ℕ) → (pageStart g p ≤ x → x < pageStart g (suc p) → ⊥) → List·Memᴰ x l
+outside-keeps : (g : Geometry) (p x : ℕ) (l : List ℕ) → (pageStart g p ≤ x → x < pageStart g p + g .page → ⊥) → List·Memᴰ x l
     → List·Memᴰ x (outside g p l)
 unfolding outside
 outside-keeps g p x [] h m = absurd (List·Memᴰ·not-nil m)
 outside-keeps g p x (a ∷ l) h m =
-    by (leb (pageStart g p) a) (ltb a (pageStart g (suc p))) refl refl (List·Memᴰ·cases-cons m) (outside-keeps g p x l h)
+    by (leb (pageStart g p) a) (ltb a (pageStart g p + g .page)) refl refl (List·Memᴰ·cases-cons m) (outside-keeps g p x l h)
   where
-    by : (s t : Bool) → leb (pageStart g p) a ≡ s → ltb a (pageStart g (suc p)) ≡ t → (x ≡ a) ⊎ List·Memᴰ x l
+    by : (s t : Bool) → leb (pageStart g p) a ≡ s → ltb a (pageStart g p + g .page) ≡ t → (x ≡ a) ⊎ List·Memᴰ x l
         → (List·Memᴰ x l → List·Memᴰ x (outside g p l))
         → List·Memᴰ x (cond (s && t) (outside g p l) (a ∷ outside g p l))
-    by true true u v (inl e) f = absurd (h (omega (arith, leb-true (pageStart g p) a u)) (omega (arith, ltb-true a (pageStart g (suc p)) v)))
+    by true true u v (inl e) f = absurd (h (omega (arith, leb-true (pageStart g p) a u)) (omega (arith, ltb-true a (pageStart g p + g .page) v)))
     by true true u v (inr k) f = f k
     by true false u v (inl e) f = List·Memᴰ·head e
     by true false u v (inr k) f = List·Memᴰ·tail (f k)
@@ -117,8 +117,8 @@ kept-range g p x r (store y bs ∷ es) l a m = kept-range g p x r es l a m
 kept-range g p x r (copy y n ∷ es) l a m = kept-range g p x r es l a m
 kept-range g p x r (erase q ∷ es) l a m = kept-range g p x r es (outside g q l) (a .1) (outside-keeps g q x l (by (side q p) (side p q)) m)
   where
-    by : Side q p → Side p q → pageStart g q ≤ x → x < pageStart g (suc q) → ⊥
-    by (below h) s u v = omega (arith, page-below g q p h, page-next g q)
+    by : Side q p → Side p q → pageStart g q ≤ x → x < pageStart g q + g .page → ⊥
+    by (below h) s u v = omega (arith, page-below g q p h)
     by (above h) (below k) u v = omega (arith, page-below g p q k)
     by (above h) (above k) u v = a .0 (omega arith)
 

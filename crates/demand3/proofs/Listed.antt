@@ -5,14 +5,15 @@ use Prim.Native.Nat.{ℕ, zero, suc, _+_, _≤_, _<_}
 use native.Mathlib.Omega.{arith}
 use Rattle.paper.specs.declared.Geometry.{Geometry}
 use Rattle.paper.specs.declared.PageState.the-variants.{Open}
+use Rattle.paper.specs.Chip.{gives}
 use Rattle.paper.specs.Scan.{Head, pageWalk, payloads}
 use Rattle.paper.specs.Pages.{state}
-use Rattle.paper.specs.Waiting.{waiting}
+use Rattle.paper.specs.Waiting.{listOf, waiting}
 use Rattle.laws.proofs.Ring.{turn, turn-suc}
 use Rattle.demand3.specs.Addresses.{presents}
 use Rattle.demand3.proofs.Payloads.{payloads-append}
 use Rattle.demand3.proofs.Addresses.{payloads-present, payloads-waiting}
-use Rattle.demand3.proofs.RingShape.{RingShape}
+use Rattle.demand3.proofs.RingShape.{RingShape, oldest-is, youngest-is}
 use Rattle.demand3.proofs.ListedHeads.{headsIn, runHeads, heads-append, waiting-heads-are}
 
 -- the present items of page p
@@ -57,3 +58,8 @@ pub run-append : (g : Geometry) (im : List ℕ) (o i m k : ℕ) → run g im o i
 run-append g im o i m k =
     sym (payloads-run g im o i (m + k)) ∙ ap payloads (heads-append g im o i m k) ∙ payloads-append (runHeads g im o i m) (runHeads g im o (i + m) k)
     ∙ ap₂ (λ (x y : List (List ℕ)). x ++ y) (payloads-run g im o i m) (payloads-run g im o (i + m) k)
+
+-- there is a list wherever the pages stand in a ring
+pub list-there : (g : Geometry) (im : List ℕ) (o b : ℕ) → RingShape g im o b → listOf g im ≡ gives (waiting g im)
+unfolding listOf waiting
+list-there g im o b S = rw (oldest-is g im o b S, youngest-is g im o b S)

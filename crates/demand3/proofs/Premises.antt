@@ -11,7 +11,7 @@ use Rattle.paper.specs.Refusals.{allowedWord, pageCount, rules, geometryOf, jud
 use Rattle.paper.specs.Steps.{retry, withRepair}
 use Rattle.paper.specs.Push.{tooBig, takePage, turnPage, findSpot, spotOn, spotStep, spotFor, itemAt, pushAt, push}
 use Rattle.paper.specs.Calls.{planOf}
-use Rattle.paper.specs.Waiting.{waitingOn, waiting}
+use Rattle.paper.specs.Waiting.{waitingOn, listOf, waiting}
 use Rattle.paper.specs.Fifo.{eventsOf, imageNext}
 use Rattle.demand3.specs.Premises.{sheet, blankSheet, halfHeader, unlucky, ambiguous, PremisesNeeded}
 
@@ -21,5 +21,5 @@ unfolding sheet blankSheet halfHeader unlucky ambiguous ones onesIn _⊕_ times 
     pageData put ands imageBy imageAfter storeCount before words writes erasePage bind bytesOf numberOf encode blank decode look onward walk
     pageWalk freeSpot serves live anyLive present payloads zeroBits isSet startMark endMark state setStart setEnd next around from allPages
     first youngest oldest retry withRepair tooBig takePage turnPage findSpot spotOn spotStep spotFor itemAt pushAt push allowedWord
-    pageCount rules geometryOf judge check waitingOn waiting planOf eventsOf imageNext
+    pageCount rules geometryOf judge check waitingOn listOf waiting planOf eventsOf imageNext
 premises-needed = record { accepted = refl; said = refl; lost = refl; altered = refl }

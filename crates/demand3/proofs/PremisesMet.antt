@@ -21,7 +21,7 @@ use Rattle.paper.specs.Steps.{retry, withRepair}
 use Rattle.paper.specs.Push.{tooBig, takePage, turnPage, findSpot, spotOn, spotStep, spotFor, itemAt, pushAt, push}
 use Rattle.paper.specs.Search.{readHeads, onMet, readPage, nextItem, nextStep, startStep, searchOn, search, pop}
 use Rattle.paper.specs.Calls.{Call, pushes, peeks, pops, fits, spaces, erasesAll, planOf}
-use Rattle.paper.specs.Waiting.{waitingOn, waiting}
+use Rattle.paper.specs.Waiting.{waitingOn, listOf, waiting}
 use Rattle.paper.specs.Fifo.{Power, whole, cutAfter, Counted, slipOf, eventsOf, imageNext, headerPlan, headerAt, Ghost, kept, refusals, ghostNext, NoneAgain, NoPassing, Bytes, Fair, Erased, Reached, fresh, further}
 use Rattle.demand3.specs.Premises.{Step, imageOf, ghostOf, AllFair, listsOf, strip, blankStrip, noGhost, mishaps, PremisesMet, slate, blankSlate, tornPush, SoleFull}
 use Rattle.demand3.proofs.Blank.{and-true}
@@ -197,7 +197,7 @@ unfolding strip blankStrip mishaps imageOf ghostOf listsOf readHeads onMet readP
     put ands imageBy imageAfter storeCount before words writes bind bytesOf numberOf encode blank decode look onward walk pageWalk walkOn
     freeSpot serves live anyLive present payloads zeroBits isSet startMark endMark state setStart next around from allPages first youngest
     oldest retry withRepair tooBig findSpot spotOn spotStep spotFor itemAt pushAt push allowedWord pageCount rules geometryOf judge check
-    waitingOn waiting planOf eventsOf imageNext allFairly fairly counts small clear away stands differs alike
+    waitingOn listOf waiting planOf eventsOf imageNext allFairly fairly counts small clear away stands differs alike
 premises-met =
     let fair = all-fairly-holds strip blankStrip noGhost mishaps refl refl in
     record {
@@ -222,7 +222,7 @@ unfolding slate blankSlate tornPush imageOf ghostOf headerPlan headerAt kept ref
     dataSize dataEnd pageBytes pageData put ands imageBy imageAfter storeCount before words writes bind bytesOf numberOf encode blank decode
     look onward walk pageWalk freeSpot serves live anyLive present payloads zeroBits isSet startMark endMark state setStart next around from
     allPages first youngest oldest retry withRepair tooBig takePage turnPage findSpot spotOn spotStep spotFor itemAt pushAt push allowedWord
-    pageCount rules geometryOf judge check waitingOn waiting planOf eventsOf imageNext allFairly fairly counts small clear away stands differs alike
+    pageCount rules geometryOf judge check waitingOn listOf waiting planOf eventsOf imageNext allFairly fairly counts small clear away stands differs alike
 sole-full =
     let fair = all-fairly-holds slate blankSlate noGhost tornPush refl refl in
     record {

@@ -93,4 +93,4 @@ keeps s g im gh P f c F o e x h = by (powerOf s im f c) refl (demand3 .behaves g
         (y, rw i B)
 
 pub demand3-of-calls : Demand3OfCalls
-demand3-of-calls = record { starts = λ s g im a e. demand3 .starts g im s a e; keeps = keeps }
+demand3-of-calls = record { starts = λ s g im a e. demand3 .starts g im s a e; lists = λ s g im gh P. demand3 .lists g im gh (comes P .reached); keeps = keeps }

@@ -16,7 +16,7 @@ use Rattle.paper.specs.Pages.{next, youngest}
 use Rattle.paper.specs.Refusals.{check, Answer, done, empty, refused}
 use Rattle.paper.specs.Push.{tooBig}
 use Rattle.paper.specs.Calls.{Call, pushes, planOf, requested}
-use Rattle.paper.specs.Waiting.{waiting}
+use Rattle.paper.specs.Waiting.{listOf, waiting}
 use Rattle.paper.specs.Fifo.{Power, whole, cutAfter, bufferOf, Ghost, Fair, Erased, Plain, listAfter}
 use Rattle.demand1.specs.Range.{Outside, Agree}
 use Rattle.demand1.specs.Shapes.{Iff}
@@ -50,6 +50,8 @@ Keeps g c (cutAfter k) i o e x =
 
 pub record Demand3OfCalls : Type 0 where
   pub starts : (s : Shape) (g : Geometry) (im : List ℕ) → check (length im) s ≡ Accepted g → Erased g im → waiting g im ≡ []
+  -- every image of a history has a list
+  pub lists : (s : Shape) (g : Geometry) (im : List ℕ) (gh : Ghost) → Played s g im gh → listOf g im ≡ gives (waiting g im)
   pub keeps : (s : Shape) (g : Geometry) (im : List ℕ) (gh : Ghost) → Played s g im gh → (f : Form) (c : Call) → Fair g im gh c (powerOf s im f c)
       → (o e : List ℕ) (x : Answer) → Promised s f c im o e x → Keeps g c (powerOf s im f c) im o e x
 

@@ -10,7 +10,7 @@ use lib.Dec.{eqb, ltb}
 use Rattle.paper.specs.declared.Checked.the-variants.{Accepted, Refused}
 use Rattle.paper.specs.declared.Geometry.{Geometry}
 use Rattle.paper.specs.declared.Shape.{Shape}
-use Rattle.paper.specs.Chip.{roundUp, headerSize, pageStart}
+use Rattle.paper.specs.Chip.{roundUp, headerSize, rangeEnd}
 use Rattle.paper.specs.Refusals.{Rule, rules, judge, check, allowedWord, geometryOf, pageCount, wordLimit, pageLimit, pageCountLimit}
 
 -- words of 4, and wider ones, which hold a header each
@@ -29,13 +29,13 @@ pub record Laid (g : Geometry) (n : ℕ) : Type 0 where
   pub small : g .page ≤ pageLimit
   pub some : 0 < g .pages
   pub few : g .pages ≤ pageCountLimit
-  pub ends : pageStart g (g .pages) ≤ n
+  pub ends : rangeEnd g ≤ n
 
 -- and the shape that it came from
 pub record From (s : Shape) (g : Geometry) (n : ℕ) : Type 0 where
   pub laid : Laid g n
   pub starts-at : g .start ≡ s .start
-  pub ends-at : pageStart g (g .pages) ≡ s .end
+  pub ends-at : rangeEnd g ≡ s .end
 
 -- ---- no rule is broken
 
@@ -77,7 +77,7 @@ module _ (n : ℕ) (s : Shape) where
   divides a b e = dvd-of-mod-eq-zero b (eqb-true (a % b) 0 (not-false (eqb (a % b) 0) e))
 
   laid-out : Kept (rules n s) → From s (geometryOf s) n
-  unfolding rules geometryOf pageCount headerSize pageStart
+  unfolding rules geometryOf pageCount headerSize rangeEnd
   laid-out k =
       let a = neither (eqb (s .page) 0 || eqb (s .word) 0) (not (eqb (s .page % s .word) 0)) (k .0) in
       let b = neither (eqb (s .page) 0) (eqb (s .word) 0) (a .0) in

@@ -6,7 +6,7 @@ use Prim.Native.Nat.{ℕ, _+_, _≤_, _<_}
 use native.Mathlib.Omega.{arith}
 use lib.ListN.{length, replicate, length-replicate}
 use Rattle.paper.specs.declared.Geometry.{Geometry}
-use Rattle.paper.specs.Chip.{pageStart, pageBytes, part, Event, erase, put, imageBy, imageAfter, bufferBy, bufferAfter, storeCount, before, erasePage}
+use Rattle.paper.specs.Chip.{pageStart, rangeEnd, pageBytes, part, Event, erase, put, imageBy, imageAfter, bufferBy, bufferAfter, storeCount, before, erasePage}
 use Rattle.paper.specs.Ways.{Each}
 use Rattle.laws.proofs.Events.{image-append}
 use Rattle.laws.proofs.PageBytes.{put-elsewhere}
@@ -54,7 +54,7 @@ module _ (g : Geometry) (p : ℕ) where
 
   -- ---- the pages of an image that the range lies in
 
-  module _ (im : List ℕ) (ends : pageStart g (g .pages) ≤ length im) (hp : p < g .pages) where
+  module _ (im : List ℕ) (ends : rangeEnd g ≤ length im) (hp : p < g .pages) where
     fits : pageStart g p + g .page ≤ length im
     fits = omega (arith, page-in g p hp)
 

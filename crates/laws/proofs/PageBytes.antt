@@ -6,7 +6,7 @@ use native.Mathlib.Nat.{add-zero, add-assoc}
 use native.Mathlib.Omega.{arith}
 use lib.ListN.{length}
 use Rattle.paper.specs.declared.Geometry.{Geometry}
-use Rattle.paper.specs.Chip.{pageStart, dataStart, dataSize, dataEnd, pageBytes, pageData, part, put}
+use Rattle.paper.specs.Chip.{pageStart, rangeEnd, dataStart, dataSize, dataEnd, pageBytes, pageData, part, put}
 use Rattle.paper.specs.Scan.{walk, pageWalk}
 use Rattle.paper.specs.Pages.{stateBy, isSet, startMark, endMark, state}
 use Rattle.laws.proofs.Sides.{Side, below, above, side}
@@ -45,7 +45,7 @@ module _ (g : Geometry) (marks : 2 * g .word ≤ g .page) where
     walk-same = ap (λ (d : List ℕ). walk g 0 (dataStart g p) d) (rw (data-part im p, data-part jm p, e))
 
 -- bytes x put at a, within page q
-pub put-elsewhere : (g : Geometry) (im : List ℕ) → pageStart g (g .pages) ≤ length im → (q a : ℕ) (x : List ℕ) → q < g .pages
+pub put-elsewhere : (g : Geometry) (im : List ℕ) → rangeEnd g ≤ length im → (q a : ℕ) (x : List ℕ) → q < g .pages
     → pageStart g q ≤ a → a + length x ≤ pageStart g q + g .page
     → (p : ℕ) → p < g .pages → (p ≡ q → ⊥) → pageBytes g (put a x im) p ≡ pageBytes g im p
 unfolding pageBytes

@@ -4,11 +4,7 @@ use Prim.Native.Nat.{ℕ, suc, _+_, _≤_, _<_, _∣_}
 use native.Mathlib.Nat.{mul-le-mul-right, suc-mul, div-mul-cancel, dvd-sub, dvd-mul-left}
 use native.Mathlib.Omega.{arith}
 use Rattle.paper.specs.declared.Geometry.{Geometry}
-use Rattle.paper.specs.Chip.{roundDown, pageStart, dataSize}
-
-pub page-next : (g : Geometry) (p : ℕ) → pageStart g (suc p) ≡ pageStart g p + g .page
-unfolding pageStart
-page-next g p = omega arith
+use Rattle.paper.specs.Chip.{roundDown, pageStart, rangeEnd, dataSize}
 
 -- a page ends before every later one begins
 pub page-below : (g : Geometry) (p q : ℕ) → p < q → pageStart g p + g .page ≤ pageStart g q
@@ -16,7 +12,8 @@ unfolding pageStart
 page-below g p q h = omega (arith, mul-le-mul-right {m = suc p} {n = q} (g .page) h, suc-mul p (g .page))
 
 -- and within the range
-pub page-in : (g : Geometry) (p : ℕ) → p < g .pages → pageStart g p + g .page ≤ pageStart g (g .pages)
+pub page-in : (g : Geometry) (p : ℕ) → p < g .pages → pageStart g p + g .page ≤ rangeEnd g
+unfolding pageStart rangeEnd
 page-in g p h = page-below g p (g .pages) h
 
 pub data-divides : (g : Geometry) → g .word ∣ g .page → g .word ∣ dataSize g

@@ -14,7 +14,7 @@ use Rattle.paper.specs.Push.{tooBig, takePage, turnPage, findSpot, spotO
 use Rattle.paper.specs.Search.{readHeads, onMet, readPage, leavePage, nextItem, nextStep, startStep, searchOn, search, peek, pop}
 use Rattle.paper.specs.Counts.{counted, longest, fitBy, fit, findMaxFit, spaceBy, spaceOf, space, spaceLeft}
 use Rattle.paper.specs.Calls.{erases, eraseAll, limited}
-use Rattle.paper.specs.Waiting.{waitingOn, waiting}
+use Rattle.paper.specs.Waiting.{waitingOn, listOf, waiting}
 use Rattle.paper.specs.Cases as cases
 use Rattle.paper.specs.Examples as examples
 
@@ -29,5 +29,5 @@ unfolding cases.small cases.erased cases.leaves cases.pushed cases.dropped cases
     serves live anyLive present payloads ones onesIn zeroBits isSet startMark endMark state setStart setEnd next around from allPages first
     youngest oldest repairs repair allowedWord pageCount rules geometryOf judge check row numbers retry withRepair tooBig takePage turnPage
     findSpot spotOn spotStep spotFor itemAt pushAt push readHeads onMet readPage leavePage nextItem nextStep startStep searchOn search peek
-    pop counted longest fitBy fit findMaxFit spaceBy spaceOf space spaceLeft erases eraseAll limited waitingOn waiting bufferBy bufferAfter
+    pop counted longest fitBy fit findMaxFit spaceBy spaceOf space spaceLeft erases eraseAll limited waitingOn listOf waiting bufferBy bufferAfter
 computed = (refl, refl)

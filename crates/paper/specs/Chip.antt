@@ -27,6 +27,9 @@ headerSize g = roundUp (g .word) 8
 unfoldable pub pageStart : Geometry → ℕ → ℕ
 pageStart g p = g .start + p * g .page
 
+unfoldable pub rangeEnd : Geometry → ℕ
+rangeEnd g = g .start + g .pages * g .page
+
 unfoldable pub dataStart : Geometry → ℕ → ℕ
 dataStart g p = pageStart g p + g .word
 

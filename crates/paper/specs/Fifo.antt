@@ -3,7 +3,7 @@ use mathlib.Core.Path.{_≡_}
 use mathlib.Core.Bool.{Bool, true, false, cond, _&&_}
 use mathlib.Core.List.{List, [], _∷_, _++_, tail, List·Memᴰ}
 use mathlib.Core.Logic.{_⊎_}
-use Prim.Native.Nat.{ℕ, suc, _+_, _≤_, _<_}
+use Prim.Native.Nat.{ℕ, _+_, _≤_, _<_}
 use lib.Dec.{leb, ltb}
 use lib.ListN.{length, take, replicate}
 use Rattle.paper.specs.declared.Shape.{Shape}
@@ -16,7 +16,7 @@ use Rattle.paper.specs.Pages.{allPages}
 use Rattle.paper.specs.Refusals.{Accepted, check, Answer, done, shown, number, none, empty, refused}
 use Rattle.paper.specs.Push.{Full, Spot, full, at, tooBig, spotFor}
 use Rattle.paper.specs.Calls.{Call, pushes, peeks, pops, fits, spaces, erasesAll, planOf}
-use Rattle.paper.specs.Waiting.{waiting}
+use Rattle.paper.specs.Waiting.{listOf, waiting}
 use Rattle.paper.specs.Ways.{Each, Passed, TooLong, Seen, Way}
 
 -- ---- the calls of a history
@@ -105,7 +105,7 @@ unfoldable pub outside : Geometry → ℕ → List ℕ → List ℕ
 outside g p [] = []
 outside g p (a ∷ l) =
     let later = outside g p l in
-    cond (leb (pageStart g p) a && ltb a (pageStart g (suc p))) later (a ∷ later)
+    cond (leb (pageStart g p) a && ltb a (pageStart g p + g .page)) later (a ∷ later)
 
 unfoldable pub kept : Geometry → List Event → List ℕ → List ℕ
 kept g [] l = l
@@ -231,10 +231,11 @@ Behaves g im c (cutAfter k) =
     (waiting g (imageNext g im c (cutAfter k)) ≡ waiting g im)
     ⊎ (waiting g (imageNext g im c (cutAfter k)) ≡ listAfter c (planOf g im c .answer) (waiting g im))
 
--- demand 3: the list is empty at the start; every call of a history behaves; every header that the scan accepts was begun by a push;
--- and "with words of 8 and more none [no false header] can arise"
+-- demand 3: every image of a history has a list, which is empty at the start; every call behaves; every header that the scan accepts was
+-- begun by a push; and "with words of 8 and more none [no false header] can arise"
 pub record Demand3 : Type 0 where
   pub starts : (g : Geometry) (im : List ℕ) (s : Shape) → check (length im) s ≡ Accepted g → Erased g im → waiting g im ≡ []
+  pub lists : (g : Geometry) (im : List ℕ) (gh : Ghost) → Reached g im gh → listOf g im ≡ gives (waiting g im)
   pub behaves : (g : Geometry) (im : List ℕ) (gh : Ghost) → Reached g im gh → (c : Call) (w : Power) → Fair g im gh c w → Behaves g im c w
   pub begun : (g : Geometry) (im : List ℕ) (gh : Ghost) → Reached g im gh → Begun g im gh
   pub noFalse : (g : Geometry) (im : List ℕ) (gh : Ghost) → Reached g im gh → 8 ≤ g .word → NoFalse g im gh

@@ -3,7 +3,7 @@ use mathlib.Core.Bool.{cond, _||_}
 use mathlib.Core.List.{List, [], _∷_, _++_}
 use Prim.Native.Nat.{ℕ}
 use lib.Dec.{eqb}
-use Rattle.paper.specs.Chip.{Geometry, Try, fails, gives}
+use Rattle.paper.specs.Chip.{Geometry, Try, gives, onGiven, settled}
 use Rattle.paper.specs.Scan.{pageWalk, payloads}
 use Rattle.paper.specs.Pages.{Open, state, same, next, from, youngest, oldest}
 
@@ -14,11 +14,11 @@ waitingOn g im y (p ∷ ps) =
     let later = waitingOn g im y ps in
     payloads (pageWalk g im p .heads) ++ cond (eqb p y || same (state g im (next g p)) Open) [] later
 
-abbrev pub waitingFrom : Geometry → List ℕ → Try Unit ℕ → Try Unit ℕ → List (List ℕ)
-waitingFrom g im (fails u) y = []
-waitingFrom g im (gives o) (fails u) = []
-waitingFrom g im (gives o) (gives y) = waitingOn g im y (from g o)
+-- "The list: payloads of present items, from the oldest page round to the youngest, ending before any Open page after the oldest." Where no
+-- such page is found there is none
+unfoldable pub listOf : Geometry → List ℕ → Try Unit (List (List ℕ))
+listOf g im = onGiven (oldest g im) (λ o. onGiven (youngest g im) (λ y. gives (waitingOn g im y (from g o))))
 
--- "The list: payloads of present items, from the oldest page round to the youngest, ending before any Open page after the oldest."
+-- the slips that wait: those of the list
 unfoldable pub waiting : Geometry → List ℕ → List (List ℕ)
-waiting g im = waitingFrom g im (oldest g im) (youngest g im)
+waiting g im = settled [] (listOf g im)

@@ -7,7 +7,7 @@ use native.Mathlib.Omega.{arith}
 use borrow.Author.Tests.{ltb-true, ltb-false, lt-ltb, le-ltb}
 use lib.Dec.{ltb}
 use Rattle.paper.specs.declared.Geometry.{Geometry}
-use Rattle.paper.specs.Chip.{headerSize, pageStart, dataStart, dataSize}
+use Rattle.paper.specs.Chip.{headerSize, rangeEnd, dataStart, dataSize}
 use Rattle.paper.specs.Refusals.{lengthLimit}
 use Rattle.paper.specs.Push.{tooBig}
 use Rattle.laws.proofs.Places.{page-in, data-whole}
@@ -36,7 +36,7 @@ module _ (g : Geometry) (n : ℕ) where
     small-data = ltb-false (dataSize g) (headerSize g + n) (sym (big-page small-length) ∙ e)
 
     -- on a fresh page it lies in the range
-    pub fresh-in : {m p : ℕ} → Within g m → p < g .pages → after g (dataStart g p) n ≤ pageStart g (g .pages)
+    pub fresh-in : {m p : ℕ} → Within g m → p < g .pages → after g (dataStart g p) n ≤ rangeEnd g
     fresh-in {m} {p} w h =
         let d = data-in g p m w h in
         let q = data-whole g (dvd-of-mod-eq-zero (g .word) (w .good .whole)) in

@@ -9,7 +9,7 @@ use lib.ListN.{length}
 use Rattle.paper.specs.declared.Geometry.{Geometry}
 use Rattle.paper.specs.declared.PageState.{PageState}
 use Rattle.paper.specs.declared.PageState.the-variants.{Open, PartialOpen, Closed, Corrupted}
-use Rattle.paper.specs.Chip.{pageStart, dataStart, dataEnd, Plan, Try, gives}
+use Rattle.paper.specs.Chip.{rangeEnd, dataStart, dataEnd, Plan, Try, gives}
 use Rattle.paper.specs.Scan.{pageWalk, freeSpot, anyLive}
 use Rattle.paper.specs.Pages.{state, next}
 use Rattle.paper.specs.Push.{Spot, at, tooBig, takePage, turnPage, findSpot}
@@ -55,7 +55,7 @@ module _ (g : Geometry) (over : Bool) (y x : ℕ) (im : List ℕ) (a : ℕ) wher
   turn-only Corrupted = λ e. let z : _≡_ {A = ℕ} 0 1 = cc in absurd (omega arith)
 
 turn-holds : (g : Geometry) (over : Bool) (y x : ℕ) (im : List ℕ) (s : PageState) (n : ℕ) (t : Tried)
-    → after g (dataStart g x) n ≤ pageStart g (g .pages) → triedAs t ≡ turnPage g over y x s im .answer → Holds g n t
+    → after g (dataStart g x) n ≤ rangeEnd g → triedAs t ≡ turnPage g over y x s im .answer → Holds g n t
 turn-holds g over y x im s n tried.Fails l e = tt
 turn-holds g over y x im s n tried.Full l e = tt
 turn-holds g over y x im s n (tried.At a) l e = rw (turn-only g over y x im (a .0) s (sym e)) l
@@ -89,5 +89,5 @@ module _ (g : Geometry) (b : Budget) (n : ℕ) (over : Bool) (y : ℕ) (im : Lis
 
 pub holds-room : {g : Geometry} {n m : ℕ} {t : Tried} {a : Address} → Within g m → t ≡ tried.At a → Holds g n t → Room g m (a .0) n
 holds-room {g} {n} {m} {t} {a} w e h =
-    let l : after g (a .0) n ≤ pageStart g (g .pages) = subst (Holds g n) e h in
+    let l : after g (a .0) n ≤ rangeEnd g = subst (Holds g n) e h in
     record { good = w .good; fits = omega (arith, w .ends); top = omega (arith, w .good .top) }

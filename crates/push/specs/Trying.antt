@@ -4,7 +4,7 @@ use mathlib.Core.Bool.{false}
 use mathlib.Core.List.{List}
 use Prim.Native.Nat.{ℕ, _≤_}
 use Rattle.paper.specs.declared.Geometry.{Geometry}
-use Rattle.paper.specs.Chip.{pageStart, Plan, Try, fails, gives}
+use Rattle.paper.specs.Chip.{rangeEnd, Plan, Try, fails, gives}
 use Rattle.paper.specs.Push as plans
 use Rattle.chip.specs.declared.Budget.{Budget}
 use Rattle.chip.specs.Run.{Ran}
@@ -23,7 +23,7 @@ triedAs (tried.At a) = gives (plans.at (a .0))
 abbrev pub Holds : Geometry → ℕ → Tried → Type 0
 Holds g n tried.Fails = Unit {0}
 Holds g n tried.Full = Unit {0}
-Holds g n (tried.At a) = after g (a .0) n ≤ pageStart g (g .pages)
+Holds g n (tried.At a) = after g (a .0) n ≤ rangeEnd g
 
 -- the search for a spot for n bytes ran as the plan p, and where it is not cut, its spot holds them
 pub record Finds (g : Geometry) (b : Budget) (n : ℕ) (p : Plan (Try Unit plans.Spot)) (i o : List ℕ) (r : Trying) : Type 0 where

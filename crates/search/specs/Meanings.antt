@@ -3,7 +3,7 @@ use mathlib.Core.Path.{_≡_}
 use mathlib.Core.List.{List}
 use Prim.Native.Nat.{ℕ, _≤_, _<_}
 use Rattle.paper.specs.declared.Geometry.{Geometry}
-use Rattle.paper.specs.Chip.{pageStart, dataEnd, pageOf, Try, fails, gives}
+use Rattle.paper.specs.Chip.{rangeEnd, dataEnd, pageOf, Try, fails, gives}
 use Rattle.paper.specs.Scan.{Head}
 use Rattle.paper.specs.Search.{passed, long, fromAddress, afterPage, Outcome, nothing, short, this, spoilt, outcomeOf}
 use Rattle.paper.specs.Search as plans
@@ -68,7 +68,7 @@ turnAs g im (turn.Ends e) = ends (endedAs g im e)
 -- address a lies in the range, and not behind the data of its page
 pub record ReadableFrom (g : Geometry) (a : ℕ) : Type 0 where
   pub low : g .start ≤ a
-  pub high : a < pageStart g (g .pages)
+  pub high : a < rangeEnd g
   pub ends : a ≤ dataEnd g (pageOf g a)
 
 abbrev pub StandIn : Geometry → NextAddress → Type 0

@@ -2,7 +2,7 @@
 use native.Mathlib.Omega.{arith}
 use native.Mathlib.Nat.{div-lt-iff-lt-mul}
 use mathlib.Core.Path.{refl}
-use Rattle.paper.specs.Chip.{pageStart, pageOf}
+use Rattle.paper.specs.Chip.{rangeEnd, pageOf}
 use Rattle.chip.proofs.calculate_page_index.Statement.{statement}
 use Rattle.chip.proofs.calculate_page_index.Tie as tie
 
@@ -13,7 +13,7 @@ div-t4 : tie.Need-div-t4
 div-t4 c = omega arith
 
 returns : tie.Need-returns
-unfolding pageOf pageStart
+unfolding pageOf rangeEnd
 returns c =
     let args-g-page = c .before .before .before .args .g .page in
     (refl, div-lt-iff-lt-mul {k = args-g-page} (omega arith) .1 (omega arith))
