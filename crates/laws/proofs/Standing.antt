@@ -25,6 +25,6 @@ module _ (g : Geometry) (inner : g .word < g .page) where
 
   pub read-start : (n old : ℕ) (clears : Bool) (k p : ℕ) (im : List ℕ)
       → nextItem g n old clears (suc k) (fromAddress (dataStart g p)) im
-      ≡ bind g im (readHeads g n (pageWalk g im p .heads) im) (onMet (nextItem g n old clears k (afterPage p)))
+      ≡ bind g im (readHeads g n (dataStart g p) (pageWalk g im p .heads) im) (onMet g p (nextItem g n old clears k (afterPage p)))
   unfolding nextItem readPage
   read-start n old clears k p im = rw (page-of-start p, walk-on-start im p)
