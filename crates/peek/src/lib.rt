@@ -45,7 +45,6 @@ fn shown_by(searched: Searched) -> Shown
         Found::TooSmall(size) => Shown::Refused(Refusal::BufferTooSmall(size)),
         Found::Present(item) => Shown::Slip(item.header.length as usize),
         Found::Corrupted => Shown::Refused(Refusal::Corrupted),
-        Found::Failed(_) => Shown::Refused(Refusal::Corrupted),
     }
 }
 

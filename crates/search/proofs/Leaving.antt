@@ -33,12 +33,12 @@ module _ (g : Geometry) (b : Budget) (im : List ℕ) (old : ℕ) (clears : Bool)
   leave-fails e d = rw (← there, e) (showed-none g b im _ d)
 
   module _ (sound : same s Corrupted ≡ false) where
-    pub leave-open : same s Open ≡ true → Keeps (ends (gives nothing))
+    pub leave-open : same s Open ≡ true → Keeps (ends (gives (record { stand = afterPage p; outcome = nothing })))
     unfolding leaveTurn
     leave-open e d = rw (← there, sound, e) (showed-none g b im _ d)
 
     module _ (used : same s Open ≡ false) where
-      pub leave-round : x ≡ old → Keeps (ends (gives nothing))
+      pub leave-round : x ≡ old → Keeps (ends (gives (record { stand = afterPage p; outcome = nothing })))
       unfolding leaveTurn
       leave-round e d = rw (← there, sound, used, ← follows, eq-eqb x old e) (showed-none g b im _ d)
 

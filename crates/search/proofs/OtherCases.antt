@@ -6,15 +6,15 @@ use denote.Enum.Declared.{tagOf}
 use types.Run.{OneOf, miss}
 use Rattle.paper.specs.declared.Geometry.{Geometry}
 use Rattle.paper.specs.Chip.{gives}
-use Rattle.search.specs.declared.Found.{Found}
-use Rattle.search.specs.declared.Found.the-variants as found
-use Rattle.search.specs.Meanings.{triedAs, foundAs}
-use Rattle.search.proofs.Found.{the-type}
+use Rattle.paper.specs.Search as plans
+use Rattle.search.specs.declared.Ended.{Ended}
+use Rattle.search.specs.declared.Ended.the-variants as ended
+use Rattle.search.specs.Meanings.{endedAs}
+use Rattle.search.proofs.Ended.{the-type}
 
 module _ (g : Geometry) (im : List ℕ) where
-  pub not-failed : (f : Found) → OneOf (0 ∷ 1 ∷ 2 ∷ 3 ∷ []) (tagOf the-type f) → triedAs g im f ≡ gives (foundAs g im f)
-  not-failed found.Nothing k = refl
-  not-failed (found.TooSmall n) k = refl
-  not-failed (found.Present x) k = refl
-  not-failed found.Corrupted k = refl
-  not-failed (found.Failed s) k = absurd (miss (0 ∷ 1 ∷ 2 ∷ 3 ∷ []) 4 tt k)
+  pub not-failed : (e : Ended) → OneOf (0 ∷ 1 ∷ 2 ∷ []) (tagOf the-type e) → (x : plans.Ended) × (endedAs g im e ≡ gives x)
+  not-failed (ended.Nothing s) k = (_, refl)
+  not-failed (ended.TooSmall s n) k = (_, refl)
+  not-failed (ended.Present s x) k = (_, refl)
+  not-failed (ended.Failed s) k = absurd (miss (0 ∷ 1 ∷ 2 ∷ []) 3 tt k)

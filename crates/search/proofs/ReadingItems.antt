@@ -10,7 +10,7 @@ use lib.ListN.{length}
 use Rattle.paper.specs.declared.Geometry.{Geometry}
 use Rattle.paper.specs.Chip.{copy, roundUp, headerSize, dataEnd, pageOf, storeCount, Plan}
 use Rattle.paper.specs.Scan.{Head, walkOn, live, present}
-use Rattle.paper.specs.Search.{Met, passed, long, met, readHeads}
+use Rattle.paper.specs.Search.{itemEnd, Met, passed, long, met, readHeads}
 use Rattle.chip.specs.declared.Budget.{Budget}
 use Rattle.chip.specs.Within.{addressLimit}
 use Rattle.chip.specs.Run.{Acted}
@@ -70,11 +70,11 @@ behind g x = after g (x .address .0) (x .header .length)
 
 -- what reading them comes to
 abbrev pub reading : Geometry → List ℕ → ℕ → ℕ → ℕ → Plan Met
-reading g im end n a = readHeads g n (walkFrom g im end a .heads) im
+reading g im end n a = readHeads g n a (walkFrom g im end a .heads) im
 
 module _ (g : Geometry) (im : List ℕ) (end n : ℕ) where
-  by-lives : (a : ℕ) (hs : List Head) → lives (walkFrom g im end a .heads) ≡ hs → reading g im end n a ≡ readHeads g n hs im
-  by-lives a hs e = ap (λ (f : List ℕ → Plan Met). f im) (read-lives g n (walkFrom g im end a .heads)) ∙ ap (λ (l : List Head). readHeads g n l im) e
+  by-lives : (a : ℕ) (hs : List Head) → lives (walkFrom g im end a .heads) ≡ hs → reading g im end n a ≡ readHeads g n a hs im
+  by-lives a hs e = ap (λ (f : List ℕ → Plan Met). f im) (read-lives g n a (walkFrom g im end a .heads)) ∙ ap (λ (l : List Head). readHeads g n a l im) e
 
   pub none-read : (a : ℕ) (d : List ℕ) → lives (walkFrom g im end a .heads) ≡ [] → Copied g (reading g im end n a) im d d passed
   unfolding readHeads
@@ -90,10 +90,10 @@ module _ (g : Geometry) (im : List ℕ) (end n : ℕ) where
     answered : m ≡ readAs n (headOf g im x) (itemOf g (x .address) (x .header))
     answered = rw size at (read .answer)
 
-    first-read : (m₁ : MaybeItem) → m ≡ m₁ → reading g im end n a ≡ readOn g n (headOf g im x) (lives (walkFrom g im end (behind g x) .heads)) im m₁
+    first-read : (m₁ : MaybeItem) → m ≡ m₁ → reading g im end n a ≡ readOn g n a (headOf g im x) (lives (walkFrom g im end (behind g x) .heads)) im m₁
     first-read m₁ q =
-        by-lives a _ (first .first) ∙ read-on g n (headOf g im x) _ im (itemOf g (x .address) (x .header)) refl
-        ∙ ap (readOn g n (headOf g im x) (lives (walkFrom g im end (behind g x) .heads)) im) (sym answered ∙ q)
+        by-lives a _ (first .first) ∙ read-on g n (headOf g im x) a _ im (itemOf g (x .address) (x .header)) refl
+        ∙ ap (readOn g n a (headOf g im x) (lives (walkFrom g im end (behind g x) .heads)) im) (sym answered ∙ q)
 
     copied : (b : Budget) → Acted g b (copies g n (headOf g im x)) im im d e (record { cut = false; budget = b })
     copied b = rw (← size) (acted-copies g b (copies g (length d) (headOf g im x)) im d e (copies-free g (length d) (headOf g im x)) (read .buffer))
@@ -101,22 +101,23 @@ module _ (g : Geometry) (im : List ℕ) (end n : ℕ) where
     pub not-popped : (y : Item) → m ≡ maybe.Erased y → ⊥
     not-popped y q = never-popped n (headOf g im x) _ y (first .alive) (sym answered ∙ q)
 
-    pub small-read : (k : ℕ) → m ≡ maybe.TooSmall k → Copied g (reading g im end n a) im d e (long k)
-    small-read k q b = rw (first-read _ q) (showed-plan (long k) (rw (small-copies g n (headOf g im x) _ k refl (sym answered ∙ q)) at (copied b)))
+    pub small-read : (k : ℕ) → m ≡ maybe.TooSmall k → Copied g (reading g im end n a) im d e (long a k)
+    small-read k q b = rw (first-read _ q) (showed-plan (long a k) (rw (small-copies g n (headOf g im x) _ k refl (sym answered ∙ q)) at (copied b)))
 
     pub present-read : (y : Item) → m ≡ maybe.Present y → Copied g (reading g im end n a) im d e (met (headOf g im x))
     present-read y q b = rw (first-read _ q) (showed-plan (met (headOf g im x)) (copied b))
 
     pub torn-read : (y : Item) → m ≡ maybe.Corrupted y → {f : List ℕ} {r : Met} → Copied g (reading g im end n (behind g x)) im e f r
         → Copied g (reading g im end n a) im d f r
+    unfolding itemEnd
     torn-read y q v b =
         let w = by-lives (behind g x) _ refl in
-        rw (first-read _ q) (showed-and-then (readHeads g n (lives (walkFrom g im end (behind g x) .heads))) (copied b) refl (rw (← w) (v b)))
+        rw (first-read _ q) (showed-and-then (readHeads g n (behind g x) (lives (walkFrom g im end (behind g x) .heads))) (copied b) refl (rw (← w) (v b)))
 
 -- ---- those of what is left of a page
 
 pub page-read : (g : Geometry) (im : List ℕ) (a n : ℕ) {p end : ℕ} {d e : List ℕ} {x : Met} (y : Met) → p ≡ pageOf g a → end ≡ dataEnd g p
     → Copied g (reading g im end n a) im d e x → x ≡ y
-    → Copied g (readTurn g n a im) im d e (afterItems p y)
+    → Copied g (readTurn g n a im) im d e (afterItems g p y)
 unfolding readTurn walkOn
-page-read g im a n {p} y ep ee v q b = rw (← ep, ← ee, ← q) (showed-turned (afterItems p) (v b))
+page-read g im a n {p} y ep ee v q b = rw (← ep, ← ee, ← q) (showed-turned (afterItems g p) (v b))

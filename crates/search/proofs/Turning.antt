@@ -11,7 +11,7 @@ use Rattle.paper.specs.declared.PageState.the-variants.{Open, Corrupted}
 use Rattle.paper.specs.Chip.{dataStart, pageOf, Event, erasePage, Plan, plan, bind, andThen, Try, fails, gives}
 use Rattle.paper.specs.Scan.{walkOn}
 use Rattle.paper.specs.Pages.{state, same, next}
-use Rattle.paper.specs.Search.{Met, passed, long, met, readHeads, Stand, fromAddress, afterPage, Outcome, nothing, onMet, readPage, leavePage, nextItem}
+use Rattle.paper.specs.Search.{Met, passed, long, met, readHeads, Stand, fromAddress, afterPage, nothing, Ended, endsAt, onMet, readPage, leavePage, nextItem}
 use Rattle.chip.specs.declared.Budget.{Budget}
 use Rattle.chip.specs.declared.Spent.{Spent}
 use Rattle.chip.specs.Run.{Showed}
@@ -20,16 +20,16 @@ use Rattle.search.specs.Turns.{Going, goes, ends, afterItems, readTurn, 
 
 -- ---- the paper's search, by turns
 
-module _ (g : Geometry) (further : Stand → List ℕ → Plan (Try Stand Outcome)) (im : List ℕ) where
+module _ (g : Geometry) (further : Stand → List ℕ → Plan (Try Stand Ended)) (im : List ℕ) where
   read-on : (n a : ℕ) → readPage g n a (further (afterPage (pageOf g a))) im ≡ bind g im (readTurn g n a im) (onGoing further)
   unfolding readPage readTurn onMet
   read-on n a =
-      let hs : Plan Met = readHeads g n (walkOn g im a .heads) im in
-      ap (bind g im hs) (λ i m im₁. by m im₁ i) ∙ sym (bind-turned g im hs (afterItems (pageOf g a)) (onGoing further))
+      let hs : Plan Met = readHeads g n a (walkOn g im a .heads) im in
+      ap (bind g im hs) (λ i m im₁. by m im₁ i) ∙ sym (bind-turned g im hs (afterItems g (pageOf g a)) (onGoing further))
     where
-      by : (m : Met) (im₁ : List ℕ) → onMet (further (afterPage (pageOf g a))) m im₁ ≡ onGoing further (afterItems (pageOf g a) m) im₁
+      by : (m : Met) (im₁ : List ℕ) → onMet g (pageOf g a) (further (afterPage (pageOf g a))) m im₁ ≡ onGoing further (afterItems g (pageOf g a) m) im₁
       by passed im₁ = refl
-      by (long k) im₁ = refl
+      by (long b k) im₁ = refl
       by (met h) im₁ = refl
 
   leave-on : (old : ℕ) (clears : Bool) (p : ℕ)
@@ -40,8 +40,9 @@ module _ (g : Geometry) (further : Stand → List ℕ → Plan (Try Stand Outcom
       (cond clears (erasePage g p) []) (fromAddress (dataStart g (next g p)))
     where
       by : (s t : Bool) (es : List Event) (on : Stand)
-          → cond s (plan [] (fails (afterPage p))) (cond t (plan [] (gives nothing)) (andThen g im es (further on)))
-          ≡ bind g im (cond s (plan [] (ends (fails (afterPage p)))) (cond t (plan [] (ends (gives nothing))) (plan es (goes on)))) (onGoing further)
+          → cond s (plan [] (fails (afterPage p))) (cond t (endsAt (afterPage p) nothing) (andThen g im es (further on)))
+          ≡ bind g im (cond s (plan [] (ends (fails (afterPage p))))
+          (cond t (plan [] (ends (gives (record { stand = afterPage p; outcome = nothing })))) (plan es (goes on)))) (onGoing further)
       by true t es on = refl
       by false true es on = refl
       by false false es on = refl
@@ -56,9 +57,10 @@ next-turn g n old clears k (afterPage p) im = leave-on g (nextItem g n old clear
 
 -- no turn is left
 pub turns-over : (g : Geometry) (b : Budget) (n old : ℕ) (clears : Bool) (s : Stand) (im d : List ℕ)
-    → Showed g b (nextItem g n old clears 0 s im) im im d d (record { cut = false; budget = b }) (gives nothing)
+    → Showed g b (nextItem g n old clears 0 s im) im im d d (record { cut = false; budget = b })
+    (gives (record { stand = s; outcome = nothing }))
 unfolding nextItem
-turns-over g b n old clears s im d = showed-none g b im (gives nothing) d
+turns-over g b n old clears s im d = showed-none g b im (gives (record { stand = s; outcome = nothing })) d
 
 -- of k turns the first is taken, on a buffer of n bytes
 module _ {g : Geometry} {b : Budget} (old : ℕ) (clears : Bool) (s : Stand) {i o d e : List ℕ} {r : Spent} {x : Going}
@@ -69,14 +71,14 @@ module _ {g : Geometry} {b : Budget} (old : ℕ) (clears : Bool) (s : Stand) {i 
       ap (λ (j : ℕ). nextItem g n old clears j s i) z ∙ next-turn g n old clears (k - 1) s i
       ∙ ap (λ (l : ℕ). bind g i (turnFrom g l old clears s i) (onGoing (nextItem g n old clears (k - 1)))) (sym size)
 
-  pub turn-cut : (y : Try Stand Outcome) → r .cut ≡ true → Showed g b (nextItem g n old clears k s i) i o d e r y
+  pub turn-cut : (y : Try Stand Ended) → r .cut ≡ true → Showed g b (nextItem g n old clears k s i) i o d e r y
   turn-cut y t = rw whole (showed-bind-cut (onGoing (nextItem g n old clears (k - 1))) h y t)
 
   module _ (t : r .cut ≡ false) where
-    pub turn-ends : (y : Try Stand Outcome) → x ≡ ends y → Showed g b (nextItem g n old clears k s i) i o d e r y
+    pub turn-ends : (y : Try Stand Ended) → x ≡ ends y → Showed g b (nextItem g n old clears k s i) i o d e r y
     turn-ends y q = rw whole (showed-bind-then (onGoing (nextItem g n old clears (k - 1))) h t (rw q (showed-kept g r o e y t)))
 
-    pub turn-goes : (next : Stand) → x ≡ goes next → {m f : List ℕ} {z : Spent} {y : Try Stand Outcome}
+    pub turn-goes : (next : Stand) → x ≡ goes next → {m f : List ℕ} {z : Spent} {y : Try Stand Ended}
         → Showed g (r .budget) (nextItem g n old clears (k - 1) next o) o m e f z y
         → Showed g b (nextItem g n old clears k s i) i m d f z y
     turn-goes next q v = rw whole (showed-bind-then (onGoing (nextItem g n old clears (k - 1))) h t (rw q v))

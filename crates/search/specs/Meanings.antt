@@ -78,11 +78,11 @@ StandIn g (stand.PageAfter p) = p .0 < g .pages
 abbrev pub ChosenIn : Geometry → Chosen → Type 0
 ChosenIn g r = (p : ℕ) → chosenAs r ≡ gives p → p < g .pages
 
--- what was looked for between the addresses `start` and `end`
+-- what was looked for between the addresses start and end
 abbrev pub MetIn : Geometry → ℕ → ℕ → ℕ → Met → Type 0
 MetIn g start end n met.Passed = Unit {0}
 MetIn g start end n (met.TooSmall a k) = (start ≤ a .0) × (a .0 ≤ end)
-MetIn g start end n (met.Present x) = ItemIn g n x
+MetIn g start end n (met.Present x) = ItemIn g n x × (start ≤ x .address .0)
 
 abbrev pub EndedIn : Geometry → ℕ → Ended → Type 0
 EndedIn g n (ended.Nothing s) = StandIn g s

@@ -1,13 +1,14 @@
 // The search for the first present item, which peek and pop share. Names and order are those of the Rust's src/queue/mod.rs, where it is the
 // first step of an iterator.
 ghost use mathlib.Core.Path.{_≡_};
-ghost use Prim.Native.Nat.{_<_};
+ghost use Prim.Native.Nat.{_≤_, _<_};
 ghost use lib.ListN.{length};
+ghost use Rattle.paper.specs.Chip.{pageStart, dataEnd};
 ghost use Rattle.paper.specs.Pages.{oldest};
 ghost use Rattle.paper.specs.Steps.{withRepair};
-ghost use Rattle.paper.specs.Search.{readHeads, nextStep, startStep};
+ghost use Rattle.paper.specs.Search.{readHeads, standAt, nextStep, startStep};
 ghost use Rattle.paper.specs.Search as plans;
-ghost use Rattle.chip.specs.Within.{Within};
+ghost use Rattle.chip.specs.Within.{Good, Within};
 ghost use Rattle.item.specs.Places.{Inside};
 ghost use Rattle.item.specs.Scanning.{walkFrom};
 ghost use Rattle.page.specs.Searches.{chosenAs};
@@ -108,10 +109,10 @@ pub fn search(image: &mut [u8], buffer: &mut [u8], b: Budget, g: Geometry) -> Se
             let address = chip::page_data_start_address(g, oldest);
             let stand = NextAddress::Address(address);
             let stepped = next(image, buffer, spent.budget, g, oldest, true, stand);
-            Searched {
-                spent: stepped.spent,
-                found: found_by(stepped.ended),
-            }
+            let spent = stepped.spent;
+            let ended = stepped.ended;
+            let found = found_by(ended);
+            Searched { spent, found }
         }
     }
 }
@@ -291,7 +292,7 @@ fn read_page(image: &[u8], buffer: &mut [u8], g: Geometry, address: Address) -> 
 
 // Where a search stands that has come to this address of page p, whose data ends at `end`.
 fn stand_at(g: Geometry, p: Page, end: Address, address: Address) -> NextAddress
-    requires { ⌜ Good g × (p .0 < g .pages) × (end .0 ≡ dataEnd g (p .0)) × (dataStart g (p .0) ≤ address .0) ⌝ }
+    requires { ⌜ Good g × (p .0 < g .pages) × (end .0 ≡ dataEnd g (p .0)) × (pageStart g (p .0) ≤ address .0) ⌝ }
     ensures { λ r. ⌜ (standAs r ≡ standAt g (p .0) (address .0)) × StandIn g r ⌝ }
 {
     if address.0 < end.0 {

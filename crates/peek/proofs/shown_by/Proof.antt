@@ -21,9 +21,6 @@ cast-t10 c = search needs
 enum-told-2 : tie.Need-enum-told-2
 enum-told-2 c = search needs
 
-enum-told-3 : tie.Need-enum-told-3
-enum-told-3 c = search needs
-
 returns-2 : tie.Need-returns-2
 returns-2 c = λ g im. (rw (c .before .before .if1 .left, c .enum-told .given .1))
 
@@ -40,9 +37,6 @@ returns-4 c =
 returns-5 : tie.Need-returns-5
 returns-5 c = λ g im. (rw (c .before .before .if1 .left, c .enum-told2 .given .1))
 
-returns-6 : tie.Need-returns-6
-returns-6 c = λ g im. (rw (c .before .before .if1 .left, c .enum-told3 .given .1))
-
 pub shown-by-spec : {M : Type 1} → statement M
 shown-by-spec =
     tie.close
@@ -53,9 +47,7 @@ shown-by-spec =
     enum-known-found-2
     cast-t10
     enum-told-2
-    enum-told-3
     returns-2
     returns-3
     returns-4
-    returns-5
-    returns-6)
+    returns-5)

@@ -42,6 +42,7 @@ same-length-2 c = search needs
 returns-2 : tie.Need-returns-2
 returns-2 c =
     let a = c .before .before .before .before .before .before .before .before .args in
+    let pre = c .before .before .before .before .before .before .before .before .pre in
     let n = c .before .before .before .before .before .before .next-page .ensures .0 in
     let s = c .before .before .before .before .get-page-state .ensures in
     let is-same = c .before .before .before .is-same in
@@ -53,7 +54,7 @@ returns-2 c =
           (λ w. leave-round (a .g) (a .b) (a .image .now) (a .oldest .0) (a .clears) (a .p .0) n s sound (sym test ∙ w .0 .left)
           (eqb-true _ _ (w .3 .taken)))
           (c .if2 .came);
-      within = tt;
+      within = pre .1;
     }
 
 page-data-start-address-requires : tie.Need-page-data-start-address-requires

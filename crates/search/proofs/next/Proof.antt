@@ -3,7 +3,7 @@ use borrow.Author.Needs.{needs}
 use mathlib.Core.Path.{ap}
 use Rattle.paper.specs.Search.{nextStep}
 use Rattle.chip.proofs.Repairing.{showed-repair-cut, showed-repair-gives, showed-repair-stops, showed-repair-again}
-use Rattle.search.specs.Meanings.{triedAs}
+use Rattle.search.specs.Meanings.{endedAs}
 use Rattle.search.proofs.OtherCases.{not-failed}
 use Rattle.search.proofs.next.Statement.{statement}
 use Rattle.search.proofs.next.Tie as tie
@@ -28,8 +28,8 @@ returns c =
       within = next-inner .ensures .within;
     }
 
-enum-known-found : tie.Need-enum-known-found
-enum-known-found c = search needs
+enum-known-ended : tie.Need-enum-known-ended
+enum-known-ended c = search needs
 
 same-length-3 : tie.Need-same-length-3
 same-length-3 c = search needs
@@ -41,9 +41,9 @@ returns-2 : tie.Need-returns-2
 returns-2 c =
     let args = c .before .before .before .before .before .before .before .before .before .before .before .before .args in
     let next-inner = c .before .before .before .before .before .before .before .next-inner in
-    let e = not-failed (args .g) (next-inner .last .0) (next-inner .result .found) (c .match .keys2) in
+    let e = not-failed (args .g) (next-inner .last .0) (next-inner .result .ended) (c .match .keys2) in
     record {
-      shows = (rw e (showed-repair-gives (nextStep (args .g) _ _ _) _ (next-inner .ensures .shows) _ e (c .before .if1 .left)));
+      shows = (rw (e .1) (showed-repair-gives (nextStep (args .g) _ _ _) _ (next-inner .ensures .shows) _ (e .1) (c .before .if1 .left)));
       within = next-inner .ensures .within;
     }
 
@@ -65,12 +65,12 @@ returns-3 c =
     .before .args in
     let next-inner = c .before .before .before .before .before .before .before .before .before .before .before .before .before .before .next-inner in
     let if1 = c .before .before .before .before .before .before .before .before .if1 in
-    let found = c .before .before .before .before .before .before .found in
+    let ended = c .before .before .before .before .before .before .ended in
     let try-general-repair = c .before .before .before .try-general-repair in
     record {
       shows = showed-repair-stops (nextStep (args .g) _ _ _) _ (next-inner .ensures .shows) _
-          (ap (triedAs (args .g) _) (found .given .1)) (if1 .left) (try-general-repair .ensures) _ (c .if2 .taken);
-      within = (rw (found .given .1) at (next-inner .ensures .within));
+          (ap (endedAs (args .g) _) (ended .given .1)) (if1 .left) (try-general-repair .ensures) _ (c .if2 .taken);
+      within = (rw (ended .given .1) at (next-inner .ensures .within));
     }
 
 next-inner-requires-2 : tie.Need-next-inner-requires-2
@@ -79,9 +79,9 @@ next-inner-requires-2 c κs =
     .before .before .before .pre in
     let next-inner = c .before .before .before .before .before .before .before .before .before .before .before .before .before .before .before .before
     .next-inner in
-    let found = c .before .before .before .before .before .before .before .before .found in
+    let ended = c .before .before .before .before .before .before .before .before .ended in
     let try-general-repair = c .before .before .before .before .before .try-general-repair in
-    ((rw (try-general-repair .kept .0, next-inner .kept .0) (pre .0)), (rw (found .given .1) at (next-inner .ensures .within)))
+    ((rw (try-general-repair .kept .0, next-inner .kept .0) (pre .0)), (rw (ended .given .1) at (next-inner .ensures .within)))
 
 same-length-7 : tie.Need-same-length-7
 same-length-7 c = search needs
@@ -96,13 +96,13 @@ returns-4 c =
     let next-inner = c .before .before .before .before .before .before .before .before .before .before .before .before .before .before .before .before .before
     .before .before .before .before .next-inner in
     let if1 = c .before .before .before .before .before .before .before .before .before .before .before .before .before .before .before .if1 in
-    let found = c .before .before .before .before .before .before .before .before .before .before .before .before .before .found in
+    let ended = c .before .before .before .before .before .before .before .before .before .before .before .before .before .ended in
     let try-general-repair = c .before .before .before .before .before .before .before .before .before .before .try-general-repair in
     let if2 = c .before .before .before .before .before .before .before .if2 in
     let next-inner2 = c .before .before .before .before .next-inner2 in
     record {
       shows = showed-repair-again (nextStep (args .g) _ _ _) _ (next-inner .ensures .shows) _
-          (ap (triedAs (args .g) _) (found .given .1)) (if1 .left) (try-general-repair .ensures) (if2 .left)
+          (ap (endedAs (args .g) _) (ended .given .1)) (if1 .left) (try-general-repair .ensures) (if2 .left)
           (rw (next-inner .kept .1 .0) at (next-inner2 .ensures .shows));
       within = next-inner2 .ensures .within;
     }
@@ -115,7 +115,7 @@ next-spec =
     same-length
     same-length-2
     returns
-    enum-known-found
+    enum-known-ended
     same-length-3
     same-length-4
     returns-2

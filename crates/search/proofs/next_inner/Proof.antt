@@ -7,7 +7,7 @@ use mathlib.Core.List.{List}
 use Prim.Native.Nat.{ℕ}
 use lib.ListN.{length}
 use Rattle.paper.specs.Chip.{Try}
-use Rattle.paper.specs.Search.{Stand, Outcome, nextStep, nextItem}
+use Rattle.paper.specs.Search.{Stand, Ended, nextStep, nextItem}
 use Rattle.chip.specs.declared.Spent.{Spent}
 use Rattle.chip.specs.Run.{Showed}
 use Rattle.search.specs.Meanings.{standAs, turnAs, StandIn}
@@ -18,7 +18,7 @@ use Rattle.search.proofs.next_inner.Tie as tie
 abbrev Inv-loop : tie.InvT-loop
 Inv-loop image₀ buffer₀ g oldest clears budget₀ stand₀ turns₀ image buffer budget stand turns =
     (length image ≡ length image₀) × (length buffer ≡ length buffer₀) × StandIn g stand
-    × ((o e : List ℕ) (r : Spent) (x : Try Stand Outcome)
+    × ((o e : List ℕ) (r : Spent) (x : Try Stand Ended)
     → Showed g budget (nextItem g (length buffer₀) (oldest .0) clears turns (standAs stand) image) image o buffer e r x
     → Showed g budget₀ (nextItem g (length buffer₀) (oldest .0) clears turns₀ (standAs stand₀) image₀) image₀ o buffer₀ e r x)
 
@@ -70,7 +70,7 @@ returns c =
           (turn-cut args-oldest-0 args-clears (standAs loop-stand)
           take-turn-ensures-shows _ _ (omega arith)
           (loop-inv .1) _ (c .if1 .taken));
-      within = tt;
+      within = loop-inv .2;
     }
 
 enum-known-turn : tie.Need-enum-known-turn Inv-loop μ-loop
@@ -157,12 +157,13 @@ returns-3 : tie.Need-returns-3 Inv-loop μ-loop
 unfolding nextStep
 returns-3 c =
     let args-g = c .before .before .before .before .before .args .g in
+    let loop-inv = c .before .loop .inv in
     let z : c .before .loop .turns ≡ 0 = omega arith in
     record {
-      shows = c .before .loop .inv .3 _ _ _ _
+      shows = loop-inv .3 _ _ _ _
           (rw z (turns-over args-g (c .before .loop .budget) _ _ _
           (standAs (c .before .loop .stand)) (c .before .loop .image) (c .before .loop .buffer)));
-      within = tt;
+      within = loop-inv .2;
     }
 
 pub next-inner-spec : {M : Type 1} → statement M

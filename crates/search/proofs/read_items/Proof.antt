@@ -3,7 +3,7 @@ use borrow.Author.Needs.{needs}
 use native.Mathlib.Omega.{arith}
 use mathlib.Core.Path.{_≡_, refl, _∙_}
 use mathlib.Core.List.{List}
-use Prim.Native.Nat.{ℕ, _-_, _<_}
+use Prim.Native.Nat.{ℕ, _-_, _≤_, _<_}
 use lib.ListN.{length}
 use Rattle.paper.specs.Search.{Met}
 use Rattle.chip.specs.Within.{addressLimit}
@@ -17,6 +17,7 @@ use Rattle.search.proofs.read_items.Tie as tie
 
 abbrev Inv-loop : tie.InvT-loop
 Inv-loop image buffer₀ g end start buffer from = Inside g (length image) (from .0) (end .0) × (end .0 < addressLimit) × (length buffer ≡ length buffer₀)
+    × (start .0 ≤ from .0)
     × ((e : List ℕ) (x : Met) → Copied g (reading g image (end .0) (length buffer₀) (from .0)) image buffer e x
     → Copied g (reading g image (end .0) (length buffer₀) (start .0)) image buffer₀ e x)
 
@@ -24,7 +25,7 @@ abbrev μ-loop : tie.MeasureT-loop
 μ-loop image buffer₀ g end start buffer from = end .0 - from .0
 
 loop-holds : tie.Need-loop-holds Inv-loop μ-loop
-loop-holds c = (c .before .before .pre, omega arith, refl, λ e x h. h)
+loop-holds c = (c .before .before .pre, omega arith, refl, omega arith, λ e x h. h)
 
 next-live-requires : tie.Need-next-live-requires Inv-loop μ-loop
 next-live-requires c κs = c .loop .inv .0
@@ -42,7 +43,7 @@ returns c =
     let args = c .before .before .before .before .before .before .args in
     let loop = c .before .before .before .loop in
     record {
-      shows = loop .inv .3 _ _
+      shows = loop .inv .4 _ _
           (none-read (args .g) (args .image .now) _ _ _ (loop .buffer)
           (none-of _ _ _ _ _ (c .before .before .next-live .ensures) (c .enum-told .given .1)));
       within = tt;
@@ -78,10 +79,10 @@ returns-2 c =
     let read-item = c .before .before .before .before .read-item in
     let r = reaches-of _ _ _ _ _ (next-live .ensures) _ (next .given .1) in
     record {
-      shows = loop .inv .3 _ _
+      shows = loop .inv .4 _ _
           (present-read (args .g) (args .image .now) _ _ _ _ r (loop .buffer) _ (loop .inv .2) _ (read-item .ensures) _
           (c .enum-told2 .given .1));
-      within = first-in (args .g) (args .image .now) _ (length (args .buffer .now)) (loop .inv .0) (loop .inv .1) r;
+      within = (first-in (args .g) (args .image .now) _ (length (args .buffer .now)) (loop .inv .0) (loop .inv .1) r, omega (arith, r .order));
     }
 
 enum-known-read : tie.Need-enum-known-read Inv-loop μ-loop
@@ -102,10 +103,10 @@ returns-3 c =
     let read-item = c .before .before .before .before .before .read-item in
     let r = reaches-of _ _ _ _ _ (next-live .ensures) _ (next .given .1) in
     record {
-      shows = loop .inv .3 _ _
+      shows = loop .inv .4 _ _
           (small-read (args .g) (args .image .now) _ _ _ _ r (loop .buffer) _ (loop .inv .2) _ (read-item .ensures) _
           (c .before .read .given .1));
-      within = tt;
+      within = (omega arith, loop .inv .0 .order);
     }
 
 enum-told-3 : tie.Need-enum-told-3 Inv-loop μ-loop
@@ -167,7 +168,8 @@ loop-again c =
       inside-on (l .inv .0) (omega (arith, r .fits, e)),
       l .inv .1,
       read-item-kept-1-1-0 ∙ l .inv .2,
-      λ f x v. l .inv .3 f x (torn-read args-g args-image-now _ _ _ _ r (l .buffer) _ (l .inv .2) _ read-item-ensures _
+      omega (arith, l .inv .3, r .order, e),
+      λ f x v. l .inv .4 f x (torn-read args-g args-image-now _ _ _ _ r (l .buffer) _ (l .inv .2) _ read-item-ensures _
           (c .before .enum-told4 .given .1) (rw e at v)),
     )
 

@@ -1,10 +1,12 @@
 -- `search::read_page` meets its contract: the items from the address on are those of what is left of its page's data. Assumes nothing.
 use borrow.Author.Needs.{needs}
-use mathlib.Core.Path.{ap}
-use Rattle.paper.specs.Search.{passed, long, met}
+use native.Mathlib.Omega.{arith}
+use mathlib.Core.Path.{ap, _∙_}
+use Rattle.paper.specs.Search.{itemEnd, passed, long, standAt}
+use Rattle.paper.specs.Search as plans
 use Rattle.search.specs.Meanings.{metAs}
 use Rattle.search.proofs.ReadingItems.{page-read}
-use Rattle.search.proofs.Standing.{left-inside}
+use Rattle.search.proofs.Standing.{page-before, between-readable, left-inside}
 use Rattle.search.proofs.read_page.Statement.{statement}
 use Rattle.search.proofs.read_page.Tie as tie
 
@@ -34,6 +36,30 @@ enum-known-met c = search needs
 enum-known-met-2 : tie.Need-enum-known-met-2
 enum-known-met-2 c = search needs
 
+next-item-address-requires : tie.Need-next-item-address-requires
+next-item-address-requires c κs =
+    let pre = c .before .before .before .before .before .before .before .before .before .before .before .before .pre in
+    let read-items = c .before .before .before .before .before .before .read-items in
+    let met2 = c .before .before .met2 in
+    (pre .0 .good, (rw (met2 .given .1) at (read-items .ensures .within)) .0 .top)
+
+stand-at-requires : tie.Need-stand-at-requires
+stand-at-requires c κs =
+    let args = c .before .before .before .before .before .before .before .before .before .before .before .before .before .args in
+    let pre = c .before .before .before .before .before .before .before .before .before .before .before .before .before .pre in
+    let calculate-page-index = c .before .before .before .before .before .before .before .before .before .before .calculate-page-index in
+    let page-data-end-address = c .before .before .before .before .before .before .before .before .before .page-data-end-address in
+    let read-items = c .before .before .before .before .before .before .before .read-items in
+    let met2 = c .before .before .before .met2 in
+    let next-item-address = c .next-item-address in
+    let low = page-before (args .g) (pre .1 .low) (calculate-page-index .ensures .0) in
+    let behind = (rw (met2 .given .1) at (read-items .ensures .within)) .1 in (
+      pre .0 .good,
+      calculate-page-index .ensures .1,
+      page-data-end-address .ensures,
+      omega (arith, low, behind, next-item-address .ensures),
+    )
+
 same-length : tie.Need-same-length
 same-length c = search needs
 
@@ -55,29 +81,39 @@ same-length-2 c = search needs
 returns-2 : tie.Need-returns-2
 returns-2 c =
     let args = c .before .before .before .before .before .before .before .before .before .before .before .args in
+    let pre = c .before .before .before .before .before .before .before .before .before .before .before .pre in
     let calculate-page-index = c .before .before .before .before .before .before .before .before .calculate-page-index in
     let page-data-end-address = c .before .before .before .before .before .before .before .page-data-end-address in
     let read-items = c .before .before .before .before .before .read-items in
+    let met = c .before .met in
+    let low = page-before (args .g) (pre .1 .low) (calculate-page-index .ensures .0) in
+    let between = rw (met .given .1) at (read-items .ensures .within) in
     record {
-      shows = page-read (args .g) (args .image .now) (args .address .0) _ (long _) (calculate-page-index .ensures .0)
-          (page-data-end-address .ensures) (read-items .ensures .shows) (ap (metAs (args .g) _) (c .before .met .given .1));
-      within = tt;
+      shows = page-read (args .g) (args .image .now) (args .address .0) _ (long _ _) (calculate-page-index .ensures .0)
+          (page-data-end-address .ensures) (read-items .ensures .shows) (ap (metAs (args .g) _) (met .given .1));
+      within = between-readable (pre .0) (calculate-page-index .ensures .1) (omega (arith, low, between .0))
+          (omega (arith, between .1, page-data-end-address .ensures));
     }
 
 same-length-3 : tie.Need-same-length-3
 same-length-3 c = search needs
 
 returns-3 : tie.Need-returns-3
+unfolding itemEnd
 returns-3 c =
-    let args = c .before .before .before .before .before .before .before .before .before .before .before .args in
-    let calculate-page-index = c .before .before .before .before .before .before .before .before .calculate-page-index in
-    let page-data-end-address = c .before .before .before .before .before .before .before .page-data-end-address in
-    let read-items = c .before .before .before .before .before .read-items in
-    let met2 = c .before .met2 in
+    let args = c .before .before .before .before .before .before .before .before .before .before .before .before .before .before .args in
+    let calculate-page-index = c .before .before .before .before .before .before .before .before .before .before .before .calculate-page-index in
+    let page-data-end-address = c .before .before .before .before .before .before .before .before .before .before .page-data-end-address in
+    let read-items = c .before .before .before .before .before .before .before .before .read-items in
+    let met2 = c .before .before .before .before .met2 in
+    let next-item-address = c .before .next-item-address in
+    let stand-at = c .stand-at in
+    let stands = stand-at .ensures .0 ∙ ap (standAt (args .g) _) (next-item-address .ensures) in
     record {
-      shows = page-read (args .g) (args .image .now) (args .address .0) _ (met _) (calculate-page-index .ensures .0)
-          (page-data-end-address .ensures) (read-items .ensures .shows) (ap (metAs (args .g) _) (met2 .given .1));
-      within = (rw (met2 .given .1) at (read-items .ensures .within));
+      shows = (rw stands (page-read (args .g) (args .image .now) (args .address .0) _ (plans.met _)
+          (calculate-page-index .ensures .0) (page-data-end-address .ensures) (read-items .ensures .shows)
+          (ap (metAs (args .g) _) (met2 .given .1))));
+      within = (stand-at .ensures .1, (rw (met2 .given .1) at (read-items .ensures .within)) .0);
     }
 
 pub read-page-spec : {M : Type 1} → statement M
@@ -90,6 +126,8 @@ read-page-spec =
     enum-told
     enum-known-met
     enum-known-met-2
+    next-item-address-requires
+    stand-at-requires
     same-length
     returns
     same-length-2

@@ -1,8 +1,7 @@
 -- `search::search` meets its contract: the second step begins where the first one ended. Assumes nothing.
 use borrow.Author.Needs.{needs}
 use mathlib.Core.Path.{ap}
-use Rattle.paper.specs.Chip.{settled}
-use Rattle.paper.specs.Search.{searchOn, spoilt}
+use Rattle.paper.specs.Search.{searchOn, spoilt, outcomeOf}
 use Rattle.paper.specs.Search as plans
 use Rattle.chip.proofs.Binding.{showed-bind-cut, showed-bind-then, showed-turned, showed-kept}
 use Rattle.page.specs.Searches.{chosenAs}
@@ -47,6 +46,9 @@ next-requires c κs =
           (c .before .before .page-data-start-address .ensures),
     )
 
+found-by-requires : tie.Need-found-by-requires
+found-by-requires c κs = search needs
+
 same-length-2 : tie.Need-same-length-2
 same-length-2 c = search needs
 
@@ -72,16 +74,19 @@ returns-3 : tie.Need-returns-3
 unfolding plans.search searchOn
 returns-3 c =
     let args = c .before .before .before .before .before .before .before .before .before .before .before .before .before .before .before .before .before .before
-    .before .args in
-    let find-start = c .before .before .before .before .before .before .before .before .before .before .before .before .before .before .before .find-start in
-    let if1 = c .before .before .before .before .before .before .before .before .before .before .before .if1 in
-    let start = c .before .before .before .before .before .before .before .before .before .start in
-    let page-data-start-address = c .before .before .before .before .before .before .before .page-data-start-address in
-    let next = c .before .before .before .before .next in
+    .before .before .before .args in
+    let find-start = c .before .before .before .before .before .before .before .before .before .before .before .before .before .before .before .before .before
+    .find-start in
+    let if1 = c .before .before .before .before .before .before .before .before .before .before .before .before .before .if1 in
+    let start = c .before .before .before .before .before .before .before .before .before .before .before .start in
+    let page-data-start-address = c .before .before .before .before .before .before .before .before .before .page-data-start-address in
+    let next = c .before .before .before .before .before .before .next in
+    let found-by = c .found-by in
     record {
       shows = showed-bind-then (searchOn (args .g) _) (find-start .ensures .shows _) (if1 .left)
-          (rw (start .given .1, ← page-data-start-address .ensures) (showed-turned (settled spoilt) (next .ensures .shows)));
-      within = next .ensures .within;
+          (rw (start .given .1, ← page-data-start-address .ensures, found-by .ensures .means (args .g) (next .last .0))
+          (showed-turned outcomeOf (next .ensures .shows)));
+      within = found-by .ensures .within (args .g) _ (next .ensures .within);
     }
 
 pub search-spec : {M : Type 1} → statement M
@@ -95,6 +100,7 @@ search-spec =
     enum-known-start
     page-data-start-address-requires
     next-requires
+    found-by-requires
     same-length-2
     returns-2
     same-length-3
