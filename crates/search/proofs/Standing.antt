@@ -5,7 +5,7 @@ use native.Mathlib.Nat.{div-eq-of-lt-le, div-mul-le-self}
 use native.Mathlib.Omega.{arith}
 use borrow.Author.Tests.{lt-ltb, le-ltb}
 use Rattle.paper.specs.declared.Geometry.{Geometry}
-use Rattle.paper.specs.Chip.{pageStart, dataStart, dataEnd, pageOf}
+use Rattle.paper.specs.Chip.{pageStart, rangeEnd, dataStart, dataEnd, pageOf}
 use Rattle.paper.specs.Search.{fromAddress, afterPage, standAt}
 use Rattle.laws.proofs.Places.{page-in}
 use Rattle.chip.specs.Within.{Good, Within}
@@ -42,7 +42,7 @@ pub stands-before : (g : Geometry) {p a : ℕ} → Good g → p < g .pages → p
     → (fromAddress a ≡ standAt g p a) × ReadableFrom g a
 unfolding standAt
 stands-before g {p} {a} good h l t =
-    let w : Within g (pageStart g (g .pages)) = record { good = good; ends = omega arith } in
+    let w : Within g (rangeEnd g) = record { good = good; ends = omega arith } in
     ((rw (lt-ltb a (dataEnd g p) t) refl), between-readable w h l (omega arith))
 
 pub stands-behind : (g : Geometry) (p a : ℕ) → dataEnd g p ≤ a → afterPage p ≡ standAt g p a
