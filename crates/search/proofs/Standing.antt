@@ -4,12 +4,12 @@ use Prim.Native.Nat.{ℕ, _<_}
 use native.Mathlib.Omega.{arith}
 use Rattle.paper.specs.declared.Geometry.{Geometry}
 use Rattle.paper.specs.Chip.{pageStart, dataStart, dataEnd, pageOf}
+use Rattle.laws.specs.Readable.{ReadableFrom}
 use Rattle.laws.proofs.Places.{page-in}
 use Rattle.laws.proofs.Standing.{page-of-start}
 use Rattle.chip.specs.Within.{Within}
 use Rattle.chip.proofs.Geometry.{data-in}
 use Rattle.item.specs.Places.{Inside}
-use Rattle.search.specs.Meanings.{ReadableFrom}
 
 pub start-readable : {g : Geometry} {n p a : ℕ} → Within g n → p < g .pages → a ≡ dataStart g p → ReadableFrom g a
 unfolding pageStart
