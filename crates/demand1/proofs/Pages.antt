@@ -8,11 +8,12 @@ use Rattle.paper.specs.declared.Geometry.{Geometry}
 use Rattle.paper.specs.Chip.{roundUp, headerSize, pageStart, dataStart, dataSize, dataEnd, pageOf, pageBytes}
 use Rattle.paper.specs.Scan.{walk, pageWalk, walkOn}
 use Rattle.paper.specs.Pages.{state, next, around, from, allPages}
+use Rattle.laws.specs.Readable.{ReadableFrom}
 use Rattle.laws.proofs.Accepted.{Laid}
 use Rattle.laws.proofs.PageBytes as page-bytes
 use Rattle.laws.proofs.Parts.{parts-same}
 use Rattle.laws.proofs.Ring.{next-in}
-use Rattle.laws.proofs.Standing.{page-of-start}
+use Rattle.laws.proofs.Standing.{page-of-in, page-of-low, start-readable}
 use Rattle.demand1.specs.Range.{Each}
 
 -- ---- where they lie
@@ -54,11 +55,9 @@ layout {g} S p =
       size-whole = c;
     }
 
--- an address in the data of a page of the range, at a whole word
-pub record InData (g : Geometry) (a : ℕ) : Type 0 where
-  pub page : pageOf g a < g .pages
-  pub low : dataStart g (pageOf g a) ≤ a
-  pub high : a ≤ dataEnd g (pageOf g a)
+-- a whole word from which a search may read on
+pub record ReadableWord (g : Geometry) (a : ℕ) : Type 0 where
+  pub readable : ReadableFrom g a
   pub aligned : g .word ∣ a
 
 module _ {g : Geometry} {n : ℕ} (S : Laid g n) where
@@ -66,12 +65,16 @@ module _ {g : Geometry} {n : ℕ} (S : Laid g n) where
   pub inner : g .word < g .page
   inner = omega (arith, S .room, S .low)
 
+  -- such a word lies in a page of the range, and not before it
+  pub page-in-range : {a : ℕ} → ReadableWord g a → pageOf g a < g .pages
+  page-in-range {a} R = page-of-in g inner a (R .readable .low) (R .readable .high)
+
+  pub page-low : {a : ℕ} → ReadableWord g a → pageStart g (pageOf g a) ≤ a
+  page-low {a} R = page-of-low g inner a (R .readable .low)
+
   -- a page's data begin with one
-  pub start-in : (p : ℕ) → p < g .pages → InData g (dataStart g p)
-  start-in p h =
-      let L = layout S p in
-      let e = page-of-start g inner p in
-      record { page = rw e h; low = rw e (omega arith); high = rw e (omega arith); aligned = L .data-whole }
+  pub start-word : (p : ℕ) → p < g .pages → ReadableWord g (dataStart g p)
+  start-word p h = let L = layout S p in record { readable = start-readable g inner (S .low) p h; aligned = L .data-whole }
 
 -- ---- what their bytes decide
 
@@ -85,14 +88,15 @@ module _ {g : Geometry} {n : ℕ} (S : Laid g n) (im jm : List ℕ) (p : ℕ) (e
   pub walk-same : pageWalk g im p ≡ pageWalk g jm p
   walk-same = page-bytes.walk-same g marks im jm p e
 
--- from an address in its data on
-pub walk-on-same : {g : Geometry} {n : ℕ} → Laid g n → (im jm : List ℕ) (a : ℕ) → InData g a → pageBytes g im (pageOf g a) ≡ pageBytes g jm (pageOf g a)
+-- from a word of it on
+pub walk-on-same : {g : Geometry} {n : ℕ} → Laid g n → (im jm : List ℕ) (a : ℕ) → ReadableWord g a → pageBytes g im (pageOf g a) ≡ pageBytes g jm (pageOf g a)
     → walkOn g im a ≡ walkOn g jm a
 unfolding walkOn pageBytes
-walk-on-same {g} S im jm a I e =
+walk-on-same {g} S im jm a R e =
     let p : ℕ = pageOf g a in
     let L = layout S p in
-    ap (walk g 0 a) (parts-same (pageStart g p) (g .page) im jm e a (dataEnd g p - a) (omega (arith, I .low)) (omega (arith, I .low, I .high)))
+    let l = page-low S R in
+    ap (walk g 0 a) (parts-same (pageStart g p) (g .page) im jm e a (dataEnd g p - a) (omega arith) (omega (arith, R .readable .ends)))
 
 -- ---- the ring
 

@@ -14,7 +14,7 @@ use Rattle.paper.specs.Search.{Met, passed, long, met, itemEnd, readHeads, Stan
 use Rattle.laws.proofs.Accepted.{Laid}
 use Rattle.laws.proofs.Ring.{next-in}
 use Rattle.demand1.specs.Range.{Lies, Each}
-use Rattle.demand1.proofs.Pages.{InData, start-in, walk-on-same}
+use Rattle.demand1.proofs.Pages.{ReadableWord, page-in-range, start-word, walk-on-same}
 use Rattle.demand1.proofs.Walks.{Placed, heads-placed}
 use Rattle.demand1.proofs.Lying.{Alike, alike-page}
 use Rattle.demand1.proofs.EachEvent.{Tried, Any, left-does}
@@ -34,7 +34,7 @@ OutPlaced g (this h) = Placed g h
 OutPlaced g spoilt = Unit {0}
 
 abbrev StandIn : Geometry → Stand → Type 0
-StandIn g (fromAddress a) = InData g a
+StandIn g (fromAddress a) = ReadableWord g a
 StandIn g (afterPage p) = p < g .pages
 
 -- b is the buffer's size
@@ -58,13 +58,13 @@ module _ {g : Geometry} {n : ℕ} (S : Laid g n) (b : ℕ) where
   abbrev NextFine : Try Stand Ended → Type 0
   NextFine = Tried (StandIn g) EndPlaced
 
-  both-read : (a : ℕ) → InData g a → (further : List ℕ → Plan (Try Stand Ended))
+  both-read : (a : ℕ) → ReadableWord g a → (further : List ℕ → Plan (Try Stand Ended))
       → ((im jm : List ℕ) → Alike g n im jm → Both g NextFine (further im) (further jm))
       → (im jm : List ℕ) → Alike g n im jm → Both g NextFine (readPage g b a further im) (readPage g b a further jm)
   unfolding readPage onMet
-  both-read a I further f im jm L =
-      rw (← walk-on-same S im jm a I (alike-page S im jm L (pageOf g a) (I .page)))
-      (both-bind S (MetPlaced g) im jm (onMet g (pageOf g a) further) L (both-heads a (walkOn g im a .heads) (heads-placed S im (L .long) a I) im jm L) on)
+  both-read a R further f im jm L =
+      rw (← walk-on-same S im jm a R (alike-page S im jm L (pageOf g a) (page-in-range S R)))
+      (both-bind S (MetPlaced g) im jm (onMet g (pageOf g a) further) L (both-heads a (walkOn g im a .heads) (heads-placed S im (L .long) a R) im jm L) on)
     where
       on : (m : Met) → MetPlaced g m → (im jm : List ℕ) → Alike g n im jm
           → Both g NextFine (onMet g (pageOf g a) further m im) (onMet g (pageOf g a) further m jm)
@@ -86,11 +86,11 @@ module _ {g : Geometry} {n : ℕ} (S : Laid g n) (b : ℕ) where
       → Both g NextFine (nextItem g b old clears k s im) (nextItem g b old clears k s jm)
   unfolding nextItem
   both-next old clears zero s h im jm L = record { one = refl; lies = tt; fine = tt }
-  both-next old clears (suc k) (fromAddress a) I im jm L =
-      both-read a I (nextItem g b old clears k (afterPage (pageOf g a))) (both-next old clears k (afterPage (pageOf g a)) (I .page)) im jm L
+  both-next old clears (suc k) (fromAddress a) R im jm L =
+      both-read a R (nextItem g b old clears k (afterPage (pageOf g a))) (both-next old clears k (afterPage (pageOf g a)) (page-in-range S R)) im jm L
   both-next old clears (suc k) (afterPage p) h im jm L =
       let s : Stand = fromAddress (dataStart g (next g p)) in
-      both-leave old clears p h (nextItem g b old clears k s) (both-next old clears k s (start-in S (next g p) (next-in g p h))) im jm L
+      both-leave old clears p h (nextItem g b old clears k s) (both-next old clears k s (start-word S (next g p) (next-in g p h))) im jm L
 
   both-on : (t : Try Unit ℕ) → Tried Any (λ p. p < g .pages) t → (im jm : List ℕ) → Alike g n im jm
       → Both g (OutPlaced g) (searchOn g b t im) (searchOn g b t jm)
@@ -99,7 +99,7 @@ module _ {g : Geometry} {n : ℕ} (S : Laid g n) (b : ℕ) where
   both-on (gives old) h im jm L =
       both-bind S NextFine im jm (λ t im₁. plan [] (outcomeOf t)) L
       (both-steps S (StandIn g) EndPlaced (nextStep g b old true) (both-next old true (2 * g .pages)) (fromAddress (dataStart g old))
-      (start-in S old h) im jm L) end
+      (start-word S old h) im jm L) end
     where
       end : (t : Try Stand Ended) → NextFine t → (im jm : List ℕ) → Alike g n im jm
           → Both g (OutPlaced g) (plan [] (outcomeOf t)) (plan [] (outcomeOf t))

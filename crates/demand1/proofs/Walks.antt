@@ -8,7 +8,7 @@ use native.Mathlib.Omega.{arith}
 use borrow.Author.Tests.{leb-true}
 use lib.ListN.{length}
 use Rattle.paper.specs.declared.Geometry.{Geometry}
-use Rattle.paper.specs.Chip.{roundUp, roundDown, headerSize, rangeEnd, dataStart, dataSize, dataEnd, pageOf, pageData, part}
+use Rattle.paper.specs.Chip.{roundUp, roundDown, headerSize, pageStart, rangeEnd, dataStart, dataSize, dataEnd, pageOf, pageData, part}
 use Rattle.paper.specs.Slip.{Look, stop, bad, item, look}
 use Rattle.paper.specs.Scan.{Head, Walk, onward, walk, pageWalk, walkOn, freeSpot, serves}
 use Rattle.laws.proofs.Accepted.{Laid}
@@ -19,7 +19,7 @@ use Rattle.laws.proofs.Headers.{header-ge, header-behind}
 use Rattle.demand1.specs.Range.{Each}
 use Rattle.demand1.proofs.Lists.{each-weaker}
 use Rattle.demand1.proofs.Items.{look-room}
-use Rattle.demand1.proofs.Pages.{layout, InData, round-up-whole, header-whole}
+use Rattle.demand1.proofs.Pages.{layout, ReadableWord, page-in-range, page-low, round-up-whole, header-whole}
 
 -- ---- a walk over data from lo up to hi
 
@@ -82,8 +82,8 @@ Placed g h = Room g (h .place) (h .len)
 
 module _ {g : Geometry} {n : ℕ} (S : Laid g n) (im : List ℕ) (long : length im ≡ n) (p : ℕ) (h : p < g .pages) where
   -- from address a to the end of the data
-  end-walked : (a : ℕ) → g .word ∣ a → dataStart g p ≤ a → a ≤ dataEnd g p → Walked g a (dataEnd g p) (walk g 0 a (part a (dataEnd g p - a) im))
-  end-walked a v l k =
+  end-walked : (a : ℕ) → g .word ∣ a → a ≤ dataEnd g p → Walked g a (dataEnd g p) (walk g 0 a (part a (dataEnd g p - a) im))
+  end-walked a v k =
       let L = layout S p in
       let m : ℕ = dataEnd g p - a in
       walked g (S .low) a (dataEnd g p) (L .end-whole) 0 a (part a m im) (omega arith)
@@ -95,10 +95,10 @@ module _ {g : Geometry} {n : ℕ} (S : Laid g n) (im : List ℕ) (long : length 
   page-walked =
       let L = layout S p in
       let z : dataSize g ≡ dataEnd g p - dataStart g p = omega arith in
-      rw z (end-walked (dataStart g p) (L .data-whole) (omega arith) (omega arith))
+      rw z (end-walked (dataStart g p) (L .data-whole) (omega arith))
 
   -- a header's room, and the spot's
-  room-in : (a m : ℕ) → g .word ∣ a → dataStart g p ≤ a → a + (headerSize g + roundUp (g .word) m) ≤ dataEnd g p → Room g a m
+  room-in : (a m : ℕ) → g .word ∣ a → pageStart g p ≤ a → a + (headerSize g + roundUp (g .word) m) ≤ dataEnd g p → Room g a m
   room-in a m v l k =
       let L = layout S p in
       record { aligned = v; low = omega arith; high = omega (arith, page-in g p h) }
@@ -109,17 +109,19 @@ module _ {g : Geometry} {n : ℕ} (S : Laid g n) (im : List ℕ) (long : length 
       let r : ℕ = length (pageWalk g im p .rest) in
       let k : headerSize g + m ≤ roundDown (g .word) r = leb-true (headerSize g + m) (roundDown (g .word) r) e in
       let w = page-walked in
+      let L = layout S p in
       room-in (dataEnd g p - r) m (w .spot-aligned) (omega (arith, w .rest-short))
       (omega (arith, w .rest-short, header-behind g (S .low) r m k, round-down-le (g .word) r))
 
   pub page-room : (m : ℕ) → headerSize g + roundUp (g .word) m ≤ dataSize g → Room g (dataStart g p) m
   page-room m k = let L = layout S p in room-in (dataStart g p) m (L .data-whole) (omega arith) (omega arith)
 
--- the headers from an address in a page's data on
-pub heads-placed : {g : Geometry} {n : ℕ} → Laid g n → (im : List ℕ) → length im ≡ n → (a : ℕ) → InData g a → Each (Placed g) (walkOn g im a .heads)
+-- the headers from a word on
+pub heads-placed : {g : Geometry} {n : ℕ} → Laid g n → (im : List ℕ) → length im ≡ n → (a : ℕ) → ReadableWord g a → Each (Placed g) (walkOn g im a .heads)
 unfolding walkOn
-heads-placed {g} S im long a I =
+heads-placed {g} S im long a R =
     let p : ℕ = pageOf g a in
+    let h = page-in-range S R in
     each-weaker (Stands g a (dataEnd g p)) (Placed g)
-    (λ x s. room-in S im long p (I .page) (x .place) (x .len) (s .aligned) (omega (arith, I .low, s .low)) (s .high))
-    (walkOn g im a .heads) (end-walked S im long p (I .page) a (I .aligned) (I .low) (I .high) .heads-stand)
+    (λ x s. room-in S im long p h (x .place) (x .len) (s .aligned) (omega (arith, page-low S R, s .low)) (s .high))
+    (walkOn g im a .heads) (end-walked S im long p h a (R .aligned) (R .readable .ends) .heads-stand)

@@ -24,7 +24,7 @@ use Rattle.demand1.specs.Range.{Each}
 use Rattle.demand1.specs.Buffers.{copiesIn}
 use Rattle.demand1.specs.Rows.{onTheWay}
 use Rattle.demand1.proofs.Lists.{each-append, each-weaker, never}
-use Rattle.demand1.proofs.Pages.{InData, inner, start-in, state-same, walk-on-same}
+use Rattle.demand1.proofs.Pages.{ReadableWord, inner, start-word, state-same, walk-on-same}
 use Rattle.demand1.proofs.EachEvent.{left-does}
 use Rattle.demand1.proofs.Frames.{erase-long, erase-other, erase-open}
 use Rattle.demand1.proofs.ReadingHeads.{Copied, copied-image, heads-copied, outcome, meet, meets, thenMeet, meet-append, passed-payloads, Meets, all, tooLong, seen, meet-is}
@@ -253,16 +253,16 @@ module _ {g : Geometry} {n : ℕ} (S : Laid g n) (im : List ℕ) (b old : ℕ) (
 
   module _ (clears : Bool) where
     -- the i-th page is read from address a on, and left
-    come-page : (m k i : ℕ) → i + suc k ≡ g .pages → (cur : List ℕ) → Ahead i cur → (a : ℕ) → InData g a → pageOf g a ≡ turn g old i
+    come-page : (m k i : ℕ) → i + suc k ≡ g .pages → (cur : List ℕ) → Ahead i cur → (a : ℕ) → ReadableWord g a → pageOf g a ≡ turn g old i
         → (clears ≡ true → payloads (walkOn g im a .heads) ≡ [] → payloads (pageWalk g im (turn g old i) .heads) ≡ []) → (later : List Head)
         → ((cur : List ℕ) → Ahead (suc i) cur → Comes later cur (nextItem g b old clears m (fromAddress (dataStart g (next g (turn g old i)))) cur))
         → Comes (walkOn g im a .heads ++ cond (stops im (next g (turn g old i))) [] later) cur (nextItem g b old clears (suc (suc m)) (fromAddress a) cur)
     unfolding nextItem readPage
-    come-page m k i e cur A a I here finished later f =
+    come-page m k i e cur A a R here finished later f =
         let p : ℕ = turn g old i in
         let h : i < g .pages = omega arith in
         let further : List ℕ → Plan (Try Stand Ended) = nextItem g b old clears m (fromAddress (dataStart g (next g p))) in
-        rw (walk-on-same S cur im a I (rw here (A .fresh i (omega arith) h)), here)
+        rw (walk-on-same S cur im a R (rw here (A .fresh i (omega arith) h)), here)
         (come-heads a p (walkOn g im a .heads) cur (leavePage g old clears p further) _
         (λ none. come-leave clears p (turn-lt g old i ho (omega arith)) cur further later (A .known) (next-page i k cur e A) (λ t. finished t none)
         (f (imageAfter g (left clears p) cur) (left-ahead clears i h cur A))))
@@ -276,6 +276,6 @@ module _ {g : Geometry} {n : ℕ} (S : Laid g n) (im : List ℕ) (b old : ℕ) (
         let z : 2 * suc k ≡ suc (suc (2 * k)) = omega arith in
         let w = walk-on-start g (inner S) im p in
         rw (z, ← w)
-        (come-page (2 * k) k i e cur A (dataStart g p) (start-in S p (turn-lt g old i ho (omega arith))) (page-of-start g (inner S) p)
+        (come-page (2 * k) k i e cur A (dataStart g p) (start-word S p (turn-lt g old i ho (omega arith))) (page-of-start g (inner S) p)
         (λ t none. rw (← w) none) _
         (λ cur A. rw (next-turn g old i ho (omega arith)) (ways k (suc i) (omega arith) cur A)))

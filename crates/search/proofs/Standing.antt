@@ -1,49 +1,39 @@
 -- A search may stand between a page's start and its data's end; there it reads on to that end. Assumes nothing.
 use mathlib.Core.Path.{_≡_, refl}
-use Prim.Native.Nat.{ℕ, _-_, _≤_, _<_}
-use native.Mathlib.Nat.{div-eq-of-lt-le, div-mul-le-self}
+use Prim.Native.Nat.{ℕ, _≤_, _<_}
 use native.Mathlib.Omega.{arith}
 use borrow.Author.Tests.{lt-ltb, le-ltb}
 use Rattle.paper.specs.declared.Geometry.{Geometry}
-use Rattle.paper.specs.Chip.{pageStart, rangeEnd, dataStart, dataEnd, pageOf}
+use Rattle.paper.specs.Chip.{pageStart, dataStart, dataEnd, pageOf}
 use Rattle.paper.specs.Search.{fromAddress, afterPage, standAt}
-use Rattle.laws.proofs.Places.{page-in}
+use Rattle.laws.specs.Readable.{ReadableFrom}
+use Rattle.laws.proofs.Standing.{page-of-low, between-readable}
 use Rattle.chip.specs.Within.{Good, Within}
 use Rattle.chip.proofs.Geometry.{data-in}
 use Rattle.item.specs.Places.{Inside}
-use Rattle.search.specs.Meanings.{ReadableFrom}
 
--- an address between a page's start and its data's end is of that page
-page-of-between : {g : Geometry} {n p a : ℕ} → Within g n → p < g .pages → pageStart g p ≤ a → a ≤ dataEnd g p → pageOf g a ≡ p
-unfolding pageOf pageStart
-page-of-between {g} {n} {p} {a} w h l u =
-    let d = data-in g p n w h in
-    div-eq-of-lt-le {k = p} (g .page) (omega (arith, w .good .low)) (omega (arith, w .good .low))
+-- every page has more than a word
+inner : {g : Geometry} → Good g → g .word < g .page
+inner good = omega (arith, good .room, good .low)
 
-pub between-readable : {g : Geometry} {n p a : ℕ} → Within g n → p < g .pages → pageStart g p ≤ a → a ≤ dataEnd g p → ReadableFrom g a
-unfolding pageStart
-between-readable {g} {n} {p} {a} w h l u =
-    let d = data-in g p n w h in
-    let q = page-of-between w h l u in
-    record { low = omega arith; high = omega (arith, w .good .low, page-in g p h); ends = (rw q u) }
+pub readable : {g : Geometry} {n p a : ℕ} → Within g n → p < g .pages → pageStart g p ≤ a → a ≤ dataEnd g p → ReadableFrom g a
+readable {g} {n} {p} {a} w h l u = between-readable g (inner (w .good)) (w .good .low) p a h l u
 
 pub start-readable : {g : Geometry} {n p a : ℕ} → Within g n → p < g .pages → a ≡ dataStart g p → ReadableFrom g a
 start-readable {g} {n} {p} w h e =
     let d = data-in g p n w h in
-    between-readable w h (omega arith) (omega (arith, w .good .room))
+    readable w h (omega arith) (omega (arith, w .good .room))
 
--- the page of an address begins before it
-pub page-before : (g : Geometry) {p a : ℕ} → g .start ≤ a → p ≡ pageOf g a → pageStart g p ≤ a
-unfolding pageStart pageOf
-page-before g {p} {a} l q = rw q (omega (arith, div-mul-le-self (a - g .start) (g .page)))
+-- the page of an address does not begin behind it
+pub page-before : {g : Geometry} {n p a : ℕ} → Within g n → g .start ≤ a → p ≡ pageOf g a → pageStart g p ≤ a
+page-before {g} {n} {p} {a} w l q = rw q (page-of-low g (inner (w .good)) a l)
 
 -- come to address a of page p, the search stands there, or leaves p where its data has ended
 pub stands-before : (g : Geometry) {p a : ℕ} → Good g → p < g .pages → pageStart g p ≤ a → a < dataEnd g p
     → (fromAddress a ≡ standAt g p a) × ReadableFrom g a
 unfolding standAt
 stands-before g {p} {a} good h l t =
-    let w : Within g (rangeEnd g) = record { good = good; ends = omega arith } in
-    ((rw (lt-ltb a (dataEnd g p) t) refl), between-readable w h l (omega arith))
+    ((rw (lt-ltb a (dataEnd g p) t) refl), between-readable g (inner good) (good .low) p a h l (omega arith))
 
 pub stands-behind : (g : Geometry) (p a : ℕ) → dataEnd g p ≤ a → afterPage p ≡ standAt g p a
 unfolding standAt

@@ -3,10 +3,11 @@ use mathlib.Core.Path.{_≡_}
 use mathlib.Core.List.{List}
 use Prim.Native.Nat.{ℕ, _≤_, _<_}
 use Rattle.paper.specs.declared.Geometry.{Geometry}
-use Rattle.paper.specs.Chip.{rangeEnd, dataEnd, pageOf, Try, fails, gives}
+use Rattle.paper.specs.Chip.{Try, fails, gives}
 use Rattle.paper.specs.Scan.{Head}
 use Rattle.paper.specs.Search.{passed, long, fromAddress, afterPage, Outcome, nothing, short, this, spoilt, outcomeOf}
 use Rattle.paper.specs.Search as plans
+use Rattle.laws.specs.Readable.{ReadableFrom}
 use Rattle.item.specs.declared.Item.{Item}
 use Rattle.item.specs.Places.{Room}
 use Rattle.item.specs.Reading.{headAt}
@@ -64,12 +65,6 @@ turnAs g im (turn.Goes s) = goes (standAs s)
 turnAs g im (turn.Ends e) = ends (endedAs g im e)
 
 -- ---- that what they name lies in the range, and in an image of n bytes
-
--- address a lies in the range, and not behind the data of its page
-pub record ReadableFrom (g : Geometry) (a : ℕ) : Type 0 where
-  pub low : g .start ≤ a
-  pub high : a < rangeEnd g
-  pub ends : a ≤ dataEnd g (pageOf g a)
 
 abbrev pub StandIn : Geometry → NextAddress → Type 0
 StandIn g (stand.Address a) = ReadableFrom g (a .0)

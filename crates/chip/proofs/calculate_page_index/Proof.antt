@@ -1,8 +1,8 @@
 -- `chip::calculate_page_index` meets its contract: an address before the end of the range lies in one of its pages. Assumes nothing.
 use native.Mathlib.Omega.{arith}
-use native.Mathlib.Nat.{div-lt-iff-lt-mul}
 use mathlib.Core.Path.{refl}
-use Rattle.paper.specs.Chip.{rangeEnd, pageOf}
+use Rattle.paper.specs.Chip.{pageOf}
+use Rattle.laws.proofs.Standing.{page-of-in}
 use Rattle.chip.proofs.calculate_page_index.Statement.{statement}
 use Rattle.chip.proofs.calculate_page_index.Tie as tie
 
@@ -13,10 +13,11 @@ div-t4 : tie.Need-div-t4
 div-t4 c = omega arith
 
 returns : tie.Need-returns
-unfolding pageOf rangeEnd
+unfolding pageOf
 returns c =
-    let args-g-page = c .before .before .before .args .g .page in
-    (refl, div-lt-iff-lt-mul {k = args-g-page} (omega arith) .1 (omega arith))
+    let args = c .before .before .before .args in
+    let pre = c .before .before .before .pre in
+    (refl, page-of-in (args .g) (omega arith) (args .address .0) (pre .1) (pre .2))
 
 pub calculate-page-index-spec : {M : Type 1} → statement M
 calculate-page-index-spec =

@@ -6,7 +6,7 @@ use Rattle.paper.specs.Search.{itemEnd, passed, long, standAt}
 use Rattle.paper.specs.Search as plans
 use Rattle.search.specs.Meanings.{metAs}
 use Rattle.search.proofs.ReadingItems.{page-read}
-use Rattle.search.proofs.Standing.{page-before, between-readable, left-inside}
+use Rattle.search.proofs.Standing.{page-before, readable, left-inside}
 use Rattle.search.proofs.read_page.Statement.{statement}
 use Rattle.search.proofs.read_page.Tie as tie
 
@@ -52,7 +52,7 @@ stand-at-requires c κs =
     let read-items = c .before .before .before .before .before .before .before .read-items in
     let met2 = c .before .before .before .met2 in
     let next-item-address = c .next-item-address in
-    let low = page-before (args .g) (pre .1 .low) (calculate-page-index .ensures .0) in
+    let low = page-before (pre .0) (pre .1 .low) (calculate-page-index .ensures .0) in
     let behind = (rw (met2 .given .1) at (read-items .ensures .within)) .1 in (
       pre .0 .good,
       calculate-page-index .ensures .1,
@@ -86,12 +86,12 @@ returns-2 c =
     let page-data-end-address = c .before .before .before .before .before .before .before .page-data-end-address in
     let read-items = c .before .before .before .before .before .read-items in
     let met = c .before .met in
-    let low = page-before (args .g) (pre .1 .low) (calculate-page-index .ensures .0) in
+    let low = page-before (pre .0) (pre .1 .low) (calculate-page-index .ensures .0) in
     let between = rw (met .given .1) at (read-items .ensures .within) in
     record {
       shows = page-read (args .g) (args .image .now) (args .address .0) _ (long _ _) (calculate-page-index .ensures .0)
           (page-data-end-address .ensures) (read-items .ensures .shows) (ap (metAs (args .g) _) (met .given .1));
-      within = between-readable (pre .0) (calculate-page-index .ensures .1) (omega (arith, low, between .0))
+      within = readable (pre .0) (calculate-page-index .ensures .1) (omega (arith, low, between .0))
           (omega (arith, between .1, page-data-end-address .ensures));
     }
 
