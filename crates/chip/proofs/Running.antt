@@ -5,7 +5,7 @@ use mathlib.Core.List.{List, [], _∷_, _++_}
 use Prim.Native.Nat.{ℕ}
 use Rattle.paper.specs.declared.Geometry.{Geometry}
 use Rattle.paper.specs.Chip.{Event, imageBy, imageAfter, bufferAfter, storeCount}
-use Rattle.laws.proofs.Events.{image-append, buffer-append, count-append, copies-image}
+use Rattle.laws.proofs.Events.{image-append, buffer-append, count-append, copies-image, storeless}
 use Rattle.chip.specs.declared.Budget.{Budget}
 use Rattle.chip.specs.declared.Spent.{Spent}
 use Rattle.chip.specs.Run.{made, spend, Did, Acted}
@@ -89,7 +89,7 @@ acted-copies g b es i d e h q =
     let s : record { cut = false; budget = b } ≡ spend b (storeCount es) = sym (spend-none b) ∙ ap (spend b) (sym h) in
     let m : made b es ≡ es = made-all b es (ap (λ (x : Spent). x .cut) (sym s)) in
     record {
-      did = record { image = sym (ap (λ (x : List Event). imageAfter g x i) m ∙ copies-image g es i h); answer = s };
+      did = record { image = sym (ap (λ (x : List Event). imageAfter g x i) m ∙ copies-image g es i (storeless es h)); answer = s };
       buffer = q ∙ ap (λ (x : List Event). bufferAfter g x i d) (sym m);
     }
 

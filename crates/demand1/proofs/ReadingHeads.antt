@@ -8,28 +8,15 @@ use borrow.Author.Tests.{ltb-true, ltb-false, lt-ltb, le-ltb}
 use lib.Dec.{eqb, ltb}
 use Rattle.paper.specs.declared.Geometry.{Geometry}
 use Rattle.paper.specs.Checksum.{dataCrc}
-use Rattle.paper.specs.Chip.{roundUp, headerSize, Event, store, erase, copy, imageBy, imageAfter, plan, bind, andThen}
+use Rattle.paper.specs.Chip.{roundUp, headerSize, Event, store, erase, copy, plan, bind, andThen}
 use Rattle.paper.specs.Scan.{Head, live, present, payloads}
 use Rattle.paper.specs.Search.{Met, passed, long, met, itemEnd, readHeads, Outcome, nothing, short, this, spoilt}
+use Rattle.laws.proofs.Events.{IsCopy}
 use Rattle.demand1.specs.Range.{Each}
 use Rattle.demand1.specs.Buffers.{ReadOf}
 use Rattle.demand1.specs.Rows.{Passed, Stops}
 use Rattle.demand1.proofs.Lists.{each-weaker}
 use Rattle.demand1.proofs.SearchCopies.{heads-read}
-
--- ---- copies alone
-
-abbrev pub Copied : Event → Type 0
-Copied (store a word) = ⊥
-Copied (erase p) = ⊥
-Copied (copy a n) = Unit {0}
-
-pub copied-image : (g : Geometry) (es : List Event) (im : List ℕ) → Each Copied es → imageAfter g es im ≡ im
-unfolding imageAfter imageBy
-copied-image g [] im h = refl
-copied-image g (store a word ∷ es) im h = absurd (h .0)
-copied-image g (erase p ∷ es) im h = absurd (h .0)
-copied-image g (copy a n ∷ es) im h = copied-image g es im (h .1)
 
 -- what a search comes to, by what its headers come to
 abbrev pub outcome : Met → Outcome
@@ -45,10 +32,10 @@ thenMeet (this h) m = this h
 thenMeet spoilt m = spoilt
 
 module _ (g : Geometry) (n : ℕ) where
-  pub heads-copied : (a : ℕ) (hs : List Head) (im : List ℕ) → Each Copied (readHeads g n a hs im .events)
-  heads-copied a hs im = each-weaker (ReadOf g hs) Copied by (readHeads g n a hs im .events) (heads-read g n a hs im .each)
+  pub heads-copied : (a : ℕ) (hs : List Head) (im : List ℕ) → Each IsCopy (readHeads g n a hs im .events)
+  heads-copied a hs im = each-weaker (ReadOf g hs) IsCopy by (readHeads g n a hs im .events) (heads-read g n a hs im .each)
     where
-      by : (e : Event) → ReadOf g hs e → Copied e
+      by : (e : Event) → ReadOf g hs e → IsCopy e
       by (store a word) r = r
       by (erase p) r = r
       by (copy a m) r = tt

@@ -15,7 +15,7 @@ use Rattle.paper.specs.Scan.{Head, pageWalk, walkOn, payloads}
 use Rattle.paper.specs.Pages.{state, same, next, around}
 use Rattle.paper.specs.Search.{Met, passed, long, met, readHeads, Stand, fromAddress, afterPage, Outcome, nothing, short, this, Ended, endsAt, onMet, readPage, leavePage, nextItem}
 use Rattle.laws.proofs.Accepted.{Laid}
-use Rattle.laws.proofs.Events.{image-append}
+use Rattle.laws.proofs.Events.{image-append, IsCopy, copies-image}
 use Rattle.laws.proofs.Marks.{same-is}
 use Rattle.laws.proofs.Ring.{turn, turn-full, turn-lt, turn-once, next-turn}
 use Rattle.laws.proofs.Sides.{Apart, is, differs, apart}
@@ -27,7 +27,7 @@ use Rattle.demand1.proofs.Lists.{each-append, each-weaker, never}
 use Rattle.demand1.proofs.Pages.{ReadableWord, inner, start-word, state-same, walk-on-same}
 use Rattle.demand1.proofs.EachEvent.{left-does}
 use Rattle.demand1.proofs.Frames.{erase-long, erase-other, erase-open}
-use Rattle.demand1.proofs.ReadingHeads.{Copied, copied-image, heads-copied, outcome, meet, meets, thenMeet, meet-append, passed-payloads, Meets, all, tooLong, seen, meet-is}
+use Rattle.demand1.proofs.ReadingHeads.{heads-copied, outcome, meet, meets, thenMeet, meet-append, passed-payloads, Meets, all, tooLong, seen, meet-is}
 use Rattle.demand1.proofs.HeadCopies.{copies-join, Kept, copies-none, readOf, copies-read, thenRead, read-append}
 
 abbrev ended : Stand → Outcome → Try Stand Ended
@@ -39,7 +39,7 @@ Clears g im (store a word) = ⊥
 Clears g im (erase p) = (p < g .pages) × ((state g im p ≡ Corrupted) ⊎ (payloads (pageWalk g im p .heads) ≡ []))
 Clears g im (copy a n) = Unit {0}
 
-copied-clears : (g : Geometry) (im : List ℕ) (e : Event) → Copied e → Clears g im e
+copied-clears : (g : Geometry) (im : List ℕ) (e : Event) → IsCopy e → Clears g im e
 copied-clears g im (store a word) h = h
 copied-clears g im (erase p) h = absurd h
 copied-clears g im (copy a n) h = tt
@@ -186,16 +186,16 @@ module _ {g : Geometry} {n : ℕ} (S : Laid g n) (im : List ℕ) (b old : ℕ) (
     abbrev reads : List Event
     reads = readHeads g b a hs cur .events
 
-    only-copies : Each Copied reads
+    only-copies : Each IsCopy reads
     only-copies = heads-copied g b a hs cur
 
     done : Each (Clears g im) reads
-    done = each-weaker Copied (Clears g im) (copied-clears g im) reads only-copies
+    done = each-weaker IsCopy (Clears g im) (copied-clears g im) reads only-copies
 
     bound : (m : Met) → readHeads g b a hs cur .answer ≡ m
         → bind g cur (readHeads g b a hs cur) (onMet g r further) ≡ plan (reads ++ onMet g r further m cur .events) (onMet g r further m cur .answer)
     unfolding bind
-    bound m q = rw (q, copied-image g reads cur only-copies)
+    bound m q = rw (q, copies-image g reads cur only-copies)
 
     met-so : (m : Met) → readHeads g b a hs cur .answer ≡ m → meet g b hs ≡ outcome m
     met-so m q = sym (meets g b a hs cur) ∙ ap outcome q
@@ -220,7 +220,7 @@ module _ {g : Geometry} {n : ℕ} (S : Laid g n) (im : List ℕ) (b old : ℕ) (
     come-heads later f = by (readHeads g b a hs cur .answer) refl
       where
         after : (es : List Event) → imageAfter g (reads ++ es) cur ≡ imageAfter g es cur
-        after es = image-append g reads es cur ∙ ap (imageAfter g es) (copied-image g reads cur only-copies)
+        after es = image-append g reads es cur ∙ ap (imageAfter g es) (copies-image g reads cur only-copies)
 
         come : meet g b hs ≡ nothing → Came later cur (further cur) → Came (hs ++ later) cur (plan (reads ++ further cur .events) (further cur .answer))
         come q (ends s e) = ends s (e ∙ ap (ended s) (sym (joined later nothing q)))

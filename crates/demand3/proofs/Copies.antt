@@ -7,37 +7,29 @@ use lib.Dec.{ltb}
 use lib.ListN.{length, take, drop}
 use lib.Seq.{take-append-le, take-take}
 use Rattle.paper.specs.declared.Geometry.{Geometry}
-use Rattle.paper.specs.Chip.{roundUp, headerSize, part, put, Event, erase, copy, imageBy, imageAfter, bufferBy, bufferAfter, Plan, plan, bind}
+use Rattle.paper.specs.Chip.{roundUp, headerSize, part, put, Event, store, erase, copy, imageBy, imageAfter, bufferBy, bufferAfter, Plan, plan, bind}
 use Rattle.paper.specs.Scan.{Head, payloads, present, live}
 use Rattle.paper.specs.Search.{Met, passed, long, met, itemEnd, readHeads}
-use Rattle.laws.proofs.Events.{image-append, buffer-append}
+use Rattle.paper.specs.Ways.{Each}
+use Rattle.laws.proofs.Events.{image-append, buffer-append, IsCopy}
 use Rattle.demand3.proofs.Events.{Avoids}
 use Rattle.demand3.proofs.Payloads.{not-present}
 use Rattle.demand3.proofs.Steady.{Keeps, Steady, rests, goes, copied}
 
 -- ---- events that are copies
 
-pub data Copies : List Event → Type 0 where
-  noCopies : Copies []
-  aCopy : {a n : ℕ} {es : List Event} → Copies es → Copies (copy a n ∷ es)
-
-pub copies-append : {es fs : List Event} → Copies es → Copies fs → Copies (es ++ fs)
-copies-append noCopies d = d
-copies-append (aCopy c) d = aCopy (copies-append c d)
-
-pub copies-image : (g : Geometry) {es : List Event} (im : List ℕ) → Copies es → imageAfter g es im ≡ im
-unfolding imageAfter imageBy
-copies-image g im noCopies = refl
-copies-image g im (aCopy c) = copies-image g im c
-
-pub copies-steady : {g : Geometry} {q : List (List ℕ)} {im : List ℕ} {es : List Event} → Keeps g q im → Copies es → Steady g q im es
+pub copies-steady : {g : Geometry} {q : List (List ℕ)} {im : List ℕ} (es : List Event) → Keeps g q im → Each IsCopy es → Steady g q im es
 unfolding imageBy
-copies-steady K noCopies = rests K
-copies-steady K (aCopy {a} {n} c) = goes K (copied a n) (copies-steady K c)
+copies-steady [] K c = rests K
+copies-steady (store a bs ∷ es) K c = absurd (c .0)
+copies-steady (erase p ∷ es) K c = absurd (c .0)
+copies-steady (copy a n ∷ es) K c = goes K (copied a n) (copies-steady es K (c .1))
 
-pub copies-avoid : (q : ℕ) {es : List Event} → Copies es → Avoids q es
-copies-avoid q noCopies = tt
-copies-avoid q (aCopy c) = copies-avoid q c
+pub copies-avoid : (q : ℕ) (es : List Event) → Each IsCopy es → Avoids q es
+copies-avoid q [] c = tt
+copies-avoid q (store a bs ∷ es) c = absurd (c .0)
+copies-avoid q (erase p ∷ es) c = absurd (c .0)
+copies-avoid q (copy a n ∷ es) c = copies-avoid q es (c .1)
 
 -- copies, an erase, and more
 pub image-on : (g : Geometry) (es : List Event) (p : ℕ) (fs : List Event) (im : List ℕ) → imageAfter g es im ≡ im
@@ -64,14 +56,14 @@ abbrev pub reads : Geometry → Head → List Event
 reads g h = copy (h .place + headerSize g) (roundUp (g .word) (h .len)) ∷ []
 
 pub data HeadsRead (g : Geometry) (n : ℕ) (hs : List Head) (m : Plan Met) : Type 0 where
-  allPassed : (es : List Event) → m ≡ plan es passed → Copies es → payloads hs ≡ [] → HeadsRead g n hs m
-  tooSmall : (a k : ℕ) (es : List Event) → m ≡ plan es (long a k) → Copies es → HeadsRead g n hs m
-  gotIt : (h : Head) (es : List Event) → m ≡ plan (es ++ reads g h) (met h) → Copies es
+  allPassed : (es : List Event) → m ≡ plan es passed → Each IsCopy es → payloads hs ≡ [] → HeadsRead g n hs m
+  tooSmall : (a k : ℕ) (es : List Event) → m ≡ plan es (long a k) → Each IsCopy es → HeadsRead g n hs m
+  gotIt : (h : Head) (es : List Event) → m ≡ plan (es ++ reads g h) (met h) → Each IsCopy es
       → (pre post : List Head) → hs ≡ pre ++ (h ∷ post) → payloads pre ≡ [] → present h ≡ true → HeadsRead g n hs m
 
 pub heads-read : (g : Geometry) (n a : ℕ) (hs : List Head) (im : List ℕ) → HeadsRead g n hs (readHeads g n a hs im)
 unfolding readHeads payloads bind imageAfter imageBy
-heads-read g n a [] im = allPassed [] refl noCopies refl
+heads-read g n a [] im = allPassed [] refl tt refl
 heads-read g n a (h ∷ hs) im = by (live h) (ltb n size) (present h) refl refl refl (λ a. heads-read g n a hs im)
   where
     size : ℕ
@@ -94,14 +86,14 @@ heads-read g n a (h ∷ hs) im = by (live h) (ltb n size) (present h) refl refl 
 
     -- it is torn
     torn : {r : Plan Met} → present h ≡ false → HeadsRead g n hs r → HeadsRead g n (h ∷ hs) (after r)
-    torn q (allPassed es e x z) = allPassed (c ∷ es) (ap after e) (aCopy x) (rw q z)
-    torn q (tooSmall a k es e x) = tooSmall a k (c ∷ es) (ap after e) (aCopy x)
-    torn q (gotIt h₁ es e x pre post y i p) = gotIt h₁ (c ∷ es) (ap after e) (aCopy x) (h ∷ pre) post (ap (λ (l : List Head). h ∷ l) y) (rw q i) p
+    torn q (allPassed es e x z) = allPassed (c ∷ es) (ap after e) (tt, x) (rw q z)
+    torn q (tooSmall a k es e x) = tooSmall a k (c ∷ es) (ap after e) (tt, x)
+    torn q (gotIt h₁ es e x pre post y i p) = gotIt h₁ (c ∷ es) (ap after e) (tt, x) (h ∷ pre) post (ap (λ (l : List Head). h ∷ l) y) (rw q i) p
 
     by : (l s p : Bool) → live h ≡ l → ltb n size ≡ s → present h ≡ p → ((a : ℕ) → HeadsRead g n hs (r a))
         → HeadsRead g n (h ∷ hs)
         (cond (not (live h)) (r a) (cond (ltb n size) (plan [] (long a size)) (cond (present h) (plan (c ∷ []) (met h)) (after (r (itemEnd g h))))))
     by false s p ql qs qp R = rw ql (dead (not-present h ql) (R a))
-    by true true p ql qs qp R = rw (ql, qs) (tooSmall a size [] refl noCopies)
-    by true false true ql qs qp R = rw (ql, qs, qp) (gotIt h [] refl noCopies [] hs refl refl qp)
+    by true true p ql qs qp R = rw (ql, qs) (tooSmall a size [] refl tt)
+    by true false true ql qs qp R = rw (ql, qs, qp) (gotIt h [] refl tt [] hs refl refl qp)
     by true false false ql qs qp R = rw (ql, qs, qp) (torn qp (R (itemEnd g h)))

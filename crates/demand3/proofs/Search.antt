@@ -12,7 +12,9 @@ use Rattle.paper.specs.Scan.{Head, Walk, pageWalk, payloads, present}
 use Rattle.paper.specs.Pages.{next, state}
 use Rattle.paper.specs.Search.{passed, long, met, itemEnd, readHeads, Stand, fromAddress, afterPage, standAt, Outcome, nothing, short, this, Ended, onMet, leavePage, nextItem, nextStep, startStep, outcomeOf, searchOn, search}
 use Rattle.paper.specs.Waiting.{waiting}
-use Rattle.laws.proofs.Events.{image-append, buffer-append}
+use Rattle.paper.specs.Ways.{Each}
+use Rattle.laws.proofs.Events.{image-append, buffer-append, IsCopy, copies-image}
+use Rattle.demand1.proofs.Lists.{each-append}
 use Rattle.laws.proofs.Ring.{turn, turn-zero, turn-suc, turn-apart, next-is}
 use Rattle.laws.proofs.Rounding.{round-up-ge}
 use Rattle.laws.proofs.Standing.{read-start}
@@ -24,7 +26,7 @@ use Rattle.demand3.proofs.Changed.{walk-other, erase-changed, erased-wa
 use Rattle.demand3.proofs.Invariant.{Inv, listed}
 use Rattle.demand3.proofs.Erasing.{erase-inv, erase-list}
 use Rattle.demand3.proofs.Steady.{Keeps, Steady, rests, goes, erased, steady-append}
-use Rattle.demand3.proofs.Copies.{Copies, noCopies, aCopy, copies-append, copies-image, copies-steady, copies-avoid, image-on, buffer-on, last-copy, reads, HeadsRead, allPassed, tooSmall, gotIt, heads-read}
+use Rattle.demand3.proofs.Copies.{copies-steady, copies-avoid, image-on, buffer-on, last-copy, reads, HeadsRead, allPassed, tooSmall, gotIt, heads-read}
 use Rattle.demand3.proofs.NextPage.{endsBefore, Roomy, Ahead, stops, leads, Behind, ahead, leave-stop, leave-on}
 use Rattle.demand3.proofs.Popping.{FirstPresent, first-in, not-empty, body-at, body-length}
 
@@ -66,7 +68,7 @@ module _ {g : Geometry} {jm : List ℕ} {o b : ℕ} (I : Inv g jm o b) {old : �
   abbrev S : RingShape g jm o b
   S = I .shape
 
-  module _ (n : ℕ) (q : List (List ℕ)) (l : waiting g jm ≡ q) (es : List Event) (c : Copies es) where
+  module _ (n : ℕ) (q : List (List ℕ)) (l : waiting g jm ≡ q) (es : List Event) (c : Each IsCopy es) where
     abbrev onward : ℕ → List ℕ → Plan (Try Stand Ended)
     onward k = fromPage g n old k (next g o)
 
@@ -79,7 +81,7 @@ module _ {g : Geometry} {jm : List ℕ} {o b : ℕ} (I : Inv g jm o b) {old : �
     K = record { old = o; runs = b; inv = I; list = l }
 
     same-image : imageAfter g es jm ≡ jm
-    same-image = copies-image g jm c
+    same-image = copies-image g es jm c
 
     -- all its heads were passed
     module _ (k : ℕ) (e : readHeads g n (dataStart g o) (pageWalk g jm o .heads) jm ≡ plan es passed) (none-here : presentIn g jm o ≡ []) where
@@ -97,7 +99,7 @@ module _ {g : Geometry} {jm : List ℕ} {o b : ℕ} (I : Inv g jm o b) {old : �
         events = es ++ [];
         out = record { stand = afterPage o; outcome = nothing };
         is = passed-on (leave-stop I F (onward k) s);
-        steady = steady-append (copies-steady K c) (rw same-image (rests K));
+        steady = steady-append (copies-steady es K c) (rw same-image (rests K));
         result = isNothing refl (sym l ∙ listed I
             ∙ ap₂ (λ (x y : List (List ℕ)). x ++ y) (ap (presentIn g jm) (turn-zero g o (S .old-in)) ∙ none-here) r)
             (rw (image-append g es [] jm ∙ same-image) (record { old = o; runs = b; inv = I; roomy = t; sole = λ one. refl }));
@@ -111,7 +113,7 @@ module _ {g : Geometry} {jm : List ℕ} {o b : ℕ} (I : Inv g jm o b) {old : �
         events = es ++ (erase o ∷ R .events);
         out = R .out;
         is = passed-on (leave-on I F (onward k) s ∙ ap (λ (x : ℕ). then (fromPage g n old k x km)) (next-is g o (S .old-in)) ∙ ap then (R .is));
-        steady = steady-append (copies-steady K c) (rw same-image (goes K (erased o (S .old-in)) (R .steady)));
+        steady = steady-append (copies-steady es K c) (rw same-image (goes K (erased o (S .old-in)) (R .steady)));
         result = by (R .result);
       }
         where
@@ -133,7 +135,7 @@ module _ {g : Geometry} {jm : List ℕ} {o b : ℕ} (I : Inv g jm o b) {old : �
               record {
                 first = rw is-image (x .first);
                 shown = λ buf. ap (take (h .len)) (buffer-on g es o (R .events) jm buf same-image) ∙ x .shown (bufferAfter g es jm buf);
-                unerased = avoid-append p es (erase o ∷ R .events) (copies-avoid p c) ((λ y. ne (sym y)), x .unerased);
+                unerased = avoid-append p es (erase o ∷ R .events) (copies-avoid p es c) ((λ y. ne (sym y)), x .unerased);
                 as-it-was = rw is-image (x .as-it-was ∙ walk-other (erase-changed jm (I .good) o (S .old-in)) p (first-in (x .first)) ne);
               }
 
@@ -156,7 +158,7 @@ module _ {g : Geometry} {jm : List ℕ} {o b : ℕ} (I : Inv g jm o b) {old : �
       events = es;
       out = record { stand = fromAddress a; outcome = short m };
       is = read-here k ∙ bind-last g jm (onMet g o (nextItem g n old true k (afterPage o))) e refl;
-      steady = copies-steady K c;
+      steady = copies-steady es K c;
       result = isShort m refl;
     }
 
@@ -169,8 +171,8 @@ module _ {g : Geometry} {jm : List ℕ} {o b : ℕ} (I : Inv g jm o b) {old : �
       events = es ++ reads g h;
       out = record { stand = standAt g o (itemEnd g h); outcome = this h };
       is = read-here k ∙ bind-last g jm (onMet g o (nextItem g n old true k (afterPage o))) e refl;
-      steady = copies-steady K d;
-      result = isThis h refl (record { first = rw ia first; shown = shown; unerased = copies-avoid o d; as-it-was = rw ia });
+      steady = copies-steady (es ++ reads g h) K d;
+      result = isThis h refl (record { first = rw ia first; shown = shown; unerased = copies-avoid o (es ++ reads g h) d; as-it-was = rw ia });
     }
       where
         a : ℕ
@@ -179,11 +181,11 @@ module _ {g : Geometry} {jm : List ℕ} {o b : ℕ} (I : Inv g jm o b) {old : �
         u : ℕ
         u = roundUp (g .word) (h .len)
 
-        d : Copies (es ++ reads g h)
-        d = copies-append c (aCopy noCopies)
+        d : Each IsCopy (es ++ reads g h)
+        d = each-append IsCopy es (reads g h) c (tt, tt)
 
         ia : imageAfter g (es ++ reads g h) jm ≡ jm
-        ia = copies-image g jm d
+        ia = copies-image g (es ++ reads g h) jm d
 
         first : FirstPresent g jm h
         first = record { old = o; runs = b; inv = I; pre = pre; post = post; heads-are = hs; none-before = ip; is-present = ph }

@@ -6,6 +6,7 @@ use native.Mathlib.Nat.{suc-sub-suc, sub-zero}
 use native.Mathlib.Omega.{arith}
 use Rattle.paper.specs.declared.Geometry.{Geometry}
 use Rattle.paper.specs.Chip.{Event, store, erase, copy, imageBy, imageAfter, storeCount, before, bufferBy, bufferAfter}
+use Rattle.paper.specs.Ways.{Each}
 
 pub image-append : (g : Geometry) (xs ys : List Event) (im : List ℕ) → imageAfter g (xs ++ ys) im ≡ imageAfter g ys (imageAfter g xs im)
 unfolding imageAfter
@@ -25,13 +26,28 @@ count-append (store a bs ∷ xs) ys = omega (arith, count-append xs ys)
 count-append (erase p ∷ xs) ys = omega (arith, count-append xs ys)
 count-append (copy a n ∷ xs) ys = count-append xs ys
 
--- copies alone leave the image
-pub copies-image : (g : Geometry) (es : List Event) (im : List ℕ) → storeCount es ≡ 0 → imageAfter g es im ≡ im
-unfolding storeCount imageAfter imageBy
-copies-image g [] im e = refl
-copies-image g (store a bs ∷ es) im e = absurd (omega arith)
-copies-image g (erase p ∷ es) im e = absurd (omega arith)
-copies-image g (copy a n ∷ es) im e = copies-image g es im e
+-- ---- copies alone
+
+abbrev pub IsCopy : Event → Type 0
+IsCopy (store a bs) = ⊥
+IsCopy (erase p) = ⊥
+IsCopy (copy a n) = Unit {0}
+
+-- they leave the image
+pub copies-image : (g : Geometry) (es : List Event) (im : List ℕ) → Each IsCopy es → imageAfter g es im ≡ im
+unfolding imageAfter imageBy
+copies-image g [] im c = refl
+copies-image g (store a bs ∷ es) im c = absurd (c .0)
+copies-image g (erase p ∷ es) im c = absurd (c .0)
+copies-image g (copy a n ∷ es) im c = copies-image g es im (c .1)
+
+-- events without a store are copies
+pub storeless : (es : List Event) → storeCount es ≡ 0 → Each IsCopy es
+unfolding storeCount
+storeless [] e = tt
+storeless (store a bs ∷ es) e = absurd (omega arith)
+storeless (erase p ∷ es) e = absurd (omega arith)
+storeless (copy a n ∷ es) e = (tt, storeless es e)
 
 -- ---- the events before store k
 
