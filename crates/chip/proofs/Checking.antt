@@ -3,7 +3,6 @@ use mathlib.Core.Path.{_≡_, refl, sym, _∙_}
 use mathlib.Core.Bool.{true, false}
 use mathlib.Core.List.{List, [], _∷_}
 use Prim.Native.Nat.{ℕ, _<_}
-use native.Mathlib.Nat.{mod-eq-zero-of-dvd}
 use native.Mathlib.Omega.{arith}
 use Rattle.paper.specs.declared.Geometry.{Geometry}
 use Rattle.paper.specs.declared.Shape.{Shape}
@@ -35,21 +34,9 @@ accepts s = refl
 laid-within : {g : Geometry} {n : ℕ} → Laid g n → rangeEnd g < addressLimit → Within g n
 unfolding headerSize
 laid-within {g} L top =
-    let h = header-in (g .word) (L .low) (L .high) in
+    let h = header-in (g .word) (L .sized .low) (L .sized .high) in
     record {
-      good = record {
-        low = L .low;
-        high = L .high;
-        whole = mod-eq-zero-of-dvd (g .word) (L .whole);
-        room = L .room;
-        small = L .small;
-        some = L .some;
-        few = L .few;
-        top = top;
-        header-low = h .low;
-        header-high = h .high;
-        header-word = h .word;
-      };
+      good = record { sized = L .sized; top = top; header-low = h .low; header-high = h .high; header-word = h .word };
       ends = L .ends;
     }
 

@@ -21,7 +21,7 @@ pub data-in : (g : Geometry) (p n : ℕ) → Within g n → p < g .pages → Dat
 unfolding dataStart dataEnd dataSize
 data-in g p n w h =
     let q = page-in g p h in
-    let r = w .good .room in
+    let r = w .good .sized .room in
     let t = w .good .top in
     let e = w .ends in
     record { starts = refl; ends = omega arith; sizes = refl; size = omega arith; within = omega arith; top = omega arith }
@@ -29,4 +29,4 @@ data-in g p n w h =
 -- what fits into whole words behind a header fits there rounded up
 pub item-fits : (g : Geometry) (n r : ℕ) → Good g → headerSize g + n ≤ roundDown (g .word) r → headerSize g + roundUp (g .word) n ≤ roundDown (g .word) r
 unfolding headerSize
-item-fits g n r h l = round-up-behind (g .word) 8 n r (h .low) l
+item-fits g n r h l = round-up-behind (g .word) 8 n r (h .sized .low) l

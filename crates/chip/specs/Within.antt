@@ -1,28 +1,23 @@
 -- What the code is given by a geometry that passed the check, and what the check and rounding promise. Assumes nothing.
 use mathlib.Core.Path.{_≡_}
-use Prim.Native.Nat.{ℕ, _+_, _*_, _%_, _≤_, _<_}
+use Prim.Native.Nat.{ℕ, _+_, _≤_, _<_}
 use Rattle.paper.specs.declared.Shape.{Shape}
 use Rattle.paper.specs.declared.Geometry.{Geometry}
 use Rattle.paper.specs.declared.Checked.{Checked}
 use Rattle.paper.specs.declared.Checked.the-variants.{Accepted}
 use Rattle.paper.specs.Chip.{roundUp, headerSize, rangeEnd}
-use Rattle.paper.specs.Refusals.{check, wordLimit, pageLimit, pageCountLimit}
+use Rattle.paper.specs.Refusals.{check, wordLimit}
+use Rattle.laws.specs.Sized.{Sized}
 
 -- addresses and counts fit a u32: the code writes this number out
 abbrev pub addressLimit : ℕ
 addressLimit = 4294967296
 
--- a word of any size from 1 to 32, whole words in a page, room for marks, a header and a word of data, and addresses that fit a u32
+-- a geometry of such sizes whose addresses fit a u32
 pub record Good (g : Geometry) : Type 0 where
-  pub low : 0 < g .word
-  pub high : g .word ≤ wordLimit
-  pub whole : g .page % g .word ≡ 0
-  pub room : 3 * g .word + headerSize g ≤ g .page
-  pub small : g .page ≤ pageLimit
-  pub some : 0 < g .pages
-  pub few : g .pages ≤ pageCountLimit
+  pub sized : Sized g
   pub top : rangeEnd g < addressLimit
-  -- these three follow from the first two; they stand here as bounds of a definition that stays shut
+  -- these three follow from the word's size; they stand here as bounds of a definition that stays shut
   pub header-low : 8 ≤ headerSize g
   pub header-high : headerSize g ≤ wordLimit
   pub header-word : g .word ≤ headerSize g

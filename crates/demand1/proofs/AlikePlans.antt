@@ -77,13 +77,13 @@ module _ {g : Geometry} {n : ℕ} (S : Laid g n) where
     pub youngest-same : youngest g im ≡ youngest g jm
     unfolding youngest
     youngest-same =
-        let all = all-in g (S .some) in
+        let all = all-in g (S .sized .some) in
         ap₂ foundOr (firsts PartialOpen (allPages g) all)
         (open-same (first g im Closed (allPages g)) (first-in g im Closed (allPages g) all) ∙ ap (openFrom g jm) (firsts Closed (allPages g) all))
 
     pub oldest-same : oldest g im ≡ oldest g jm
     unfolding oldest
-    oldest-same = on (youngest g im) (youngest-in g im (S .some))
+    oldest-same = on (youngest g im) (youngest-in g im (S .sized .some))
         ∙ ap (λ (t : Try Unit ℕ). onGiven t (λ y. foundOr (first g jm Closed (from g y)) (gives y))) youngest-same
       where
         on : (t : Try Unit ℕ) → Tried Any (λ p. p < g .pages) t
@@ -93,12 +93,12 @@ module _ {g : Geometry} {n : ℕ} (S : Laid g n) where
 
     repair-same : repair g im ≡ repair g jm
     unfolding repair
-    repair-same = repairs-same (allPages g) (all-in g (S .some))
+    repair-same = repairs-same (allPages g) (all-in g (S .sized .some))
 
     both-repair : {B : Type 0} {R : B → Type 0} (follow : List ℕ → Plan B) → ((im jm : List ℕ) → Alike g n im jm → Both g R (follow im) (follow jm))
         → Both g R (andThen g im (repair g im) follow) (andThen g jm (repair g jm) follow)
     both-repair follow f =
-        rw (← repair-same) (both-then im jm (repair g im) follow A (repair-lies g im (S .some)) f)
+        rw (← repair-same) (both-then im jm (repair g im) follow A (repair-lies g im (S .sized .some)) f)
 
   -- a step, and once more after a repair where it failed
   pub both-steps : {W A : Type 0} (F : W → Type 0) (Q : A → Type 0) (step : W → List ℕ → Plan (Try W A))

@@ -65,5 +65,5 @@ no-logic-bug = record {
   reborrows = λ g im n. peek-does g n im .answers;
   reborrows-pop = λ g im n. pop-does g n im .answers;
   splits = λ w n h. (round-down-le w n, omega (arith, round-down-gt w n h, round-down-le w n));
-  extends = λ g im s e n. let S = accepted-from (length im) s g e .laid in omega (arith, S .high, tail-fits (g .word) n (S .low));
+  extends = λ g im s e n. let S = accepted-from (length im) s g e .laid in omega (arith, S .sized .high, tail-fits (g .word) n (S .sized .low));
 }

@@ -50,7 +50,7 @@ module _ {g : Geometry} {n : ℕ} (S : Laid g n) (im : List ℕ) (size : length 
     none = λ {hs} w h. read w ∙ none-read g b hs h;
     short = λ {hs} w k T. read w ∙ short-read g b hs T;
     seen = λ {hs} w k T. read w ∙ seen-read g b hs T;
-    corrupted = λ a. ap copiesIn (lost a) ∙ copies-none (repair g im) (repair-does g im Kept (S .some) (λ p h c. tt));
+    corrupted = λ a. ap copiesIn (lost a) ∙ copies-none (repair g im) (repair-does g im Kept (S .sized .some) (λ p h c. tt));
   }
     where
       read : {hs : List Head} → Way g im hs → copiesIn (p .events) ≡ readOf g b hs

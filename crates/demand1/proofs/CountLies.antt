@@ -49,7 +49,7 @@ module _ {g : Geometry} {n : ℕ} (S : Laid g n) where
 
     fit-same : fit g im ≡ fit g jm
     unfolding fit
-    fit-same = on (youngest g im) (youngest-in g im (S .some))
+    fit-same = on (youngest g im) (youngest-in g im (S .sized .some))
         ∙ ap (λ (t : Try Unit ℕ). onGiven t (λ y. fitBy g jm y (state g jm (next g y)))) (youngest-same S L)
       where
         on : (t : Try Unit ℕ) → Tried Any (λ p. p < g .pages) t
@@ -71,7 +71,7 @@ module _ {g : Geometry} {n : ℕ} (S : Laid g n) where
 
     space-same : space g im ≡ space g jm
     unfolding space
-    space-same = rw (space-of (allPages g) (all-in g (S .some)))
+    space-same = rw (space-of (allPages g) (all-in g (S .sized .some)))
 
   pub both-fit : (im jm : List ℕ) → Alike g n im jm → Both g Any (findMaxFit g im) (findMaxFit g jm)
   unfolding findMaxFit
@@ -88,4 +88,4 @@ module _ {g : Geometry} {n : ℕ} (S : Laid g n) where
 
   pub both-erase : Both g Any (eraseAll g) (eraseAll g)
   unfolding eraseAll
-  both-erase = record { one = refl; lies = erases-lie (allPages g) (all-in g (S .some)); fine = tt }
+  both-erase = record { one = refl; lies = erases-lie (allPages g) (all-in g (S .sized .some)); fine = tt }

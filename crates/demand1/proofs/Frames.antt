@@ -79,4 +79,4 @@ module _ {g : Geometry} {n : ℕ} (S : Laid g n) (im : List ℕ) (long : length 
         ∙ part-filled (pageStart g q) (g .word) 0 im (omega (arith, mark-fits)) (pageStart g q) (g .word) (omega arith) (omega arith) in
         let b : part (dataEnd g q) (g .word) (imageBy g (setStart g q) im) ≡ part (dataEnd g q) (g .word) im =
         ap (part (dataEnd g q) (g .word)) marked-put ∙ part-after (pageStart g q) (replicate (g .word) 0) im mark-fits (dataEnd g q) (g .word) (omega arith) in
-        rw (a, b, zeros-set (g .word) (S .low), open-end (isSet (part (pageStart g q) (g .word) im)) (isSet (part (dataEnd g q) (g .word) im)) e)
+        rw (a, b, zeros-set (g .word) (S .sized .low), open-end (isSet (part (pageStart g q) (g .word) im)) (isSet (part (dataEnd g q) (g .word) im)) e)

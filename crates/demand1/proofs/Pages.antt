@@ -41,13 +41,13 @@ pub layout : {g : Geometry} {n : ℕ} → Laid g n → (p : ℕ) → Layout g p
 unfolding pageStart dataStart dataEnd dataSize
 layout {g} S p =
     let w : ℕ = g .word in
-    let a : w ∣ pageStart g p = dvd-add w (S .aligned) (dvd-mul-left-of-dvd w (S .whole) p) in
+    let a : w ∣ pageStart g p = dvd-add w (S .aligned) (dvd-mul-left-of-dvd w (S .sized .whole) p) in
     let b : w ∣ dataStart g p = dvd-add w a (dvd-refl w) in
-    let c : w ∣ dataSize g = dvd-sub w (S .whole) (dvd-mul-left w 2) in
+    let c : w ∣ dataSize g = dvd-sub w (S .sized .whole) (dvd-mul-left w 2) in
     record {
       data-at = refl;
       end-at = add-assoc (g .start + p * g .page) w (g .page - 2 * w);
-      split = omega (arith, S .room);
+      split = omega (arith, S .sized .room);
       start-low = omega arith;
       start-whole = a;
       data-whole = b;
@@ -63,7 +63,7 @@ pub record ReadableWord (g : Geometry) (a : ℕ) : Type 0 where
 module _ {g : Geometry} {n : ℕ} (S : Laid g n) where
   -- a page is more than its first word
   pub inner : g .word < g .page
-  inner = omega (arith, S .room, S .low)
+  inner = omega (arith, S .sized .room, S .sized .low)
 
   -- such a word lies in a page of the range, and not before it
   pub page-in-range : {a : ℕ} → ReadableWord g a → pageOf g a < g .pages
@@ -80,7 +80,7 @@ module _ {g : Geometry} {n : ℕ} (S : Laid g n) where
 
 module _ {g : Geometry} {n : ℕ} (S : Laid g n) (im jm : List ℕ) (p : ℕ) (e : pageBytes g im p ≡ pageBytes g jm p) where
   marks : 2 * g .word ≤ g .page
-  marks = omega (arith, S .room)
+  marks = omega (arith, S .sized .room)
 
   pub state-same : state g im p ≡ state g jm p
   state-same = page-bytes.state-same g marks im jm p e

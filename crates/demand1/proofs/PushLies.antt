@@ -47,7 +47,7 @@ module _ {g : Geometry} {n : ℕ} (S : Laid g n) (m : ℕ) (small : tooBig g m �
       let k : headerSize g + m ≤ dataSize g =
       ltb-false (dataSize g) (headerSize g + m) (neither (ltb lengthLimit m) (ltb (dataSize g) (headerSize g + m)) small .1) in
       let d : roundDown w (dataSize g) ≡ dataSize g = div-mul-cancel w {m = dataSize g} (layout S 0 .size-whole) in
-      omega (arith, header-behind g (S .low) (dataSize g) m (omega arith))
+      omega (arith, header-behind g (S .sized .low) (dataSize g) m (omega arith))
 
   module _ {im jm : List ℕ} (L : Alike g n im jm) (over : Bool) (y x : ℕ) (hy : y < g .pages) (hx : x < g .pages) where
     both-take : Both g (SpotFine g m) (takePage g over y x im) (takePage g over y x jm)
@@ -96,7 +96,7 @@ module _ {g : Geometry} {n : ℕ} (S : Laid g n) (m : ℕ) (small : tooBig g m �
   both-spotFor : (over : Bool) (im jm : List ℕ) → Alike g n im jm → Both g (SpotFine g m) (spotFor g im m over) (spotFor g jm m over)
   unfolding spotFor spotStep
   both-spotFor over im jm L = both-steps S Any (SpotFits g m) (spotStep g m over)
-      (λ w v im jm L. rw (← youngest-same S L) (both-spot over (youngest g im) (youngest-in g im (S .some)) im jm L)) tt tt im jm L
+      (λ w v im jm L. rw (← youngest-same S L) (both-spot over (youngest g im) (youngest-in g im (S .sized .some)) im jm L)) tt tt im jm L
 
 module _ {g : Geometry} {n : ℕ} (S : Laid g n) (slip : List ℕ) where
   both-item : (t : Try Unit Spot) → SpotFine g (length slip) t → (im jm : List ℕ) → Alike g n im jm → Both g Any (pushAt g slip t im) (pushAt g slip t jm)

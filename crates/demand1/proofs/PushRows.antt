@@ -111,7 +111,7 @@ module _ {g : Geometry} {n : ℕ} (S : Laid g n) (im : List ℕ) (long : length 
 
       over-data : TooBig g (length slip) → (65535 < length slip) ⊎ (dataSize g < headerSize g + length slip)
       over-data (inl l) = inl l
-      over-data (inr l) = inr (omega (arith, S .room))
+      over-data (inr l) = inr (omega (arith, S .sized .room))
 
   of-big : TooBig g (length slip) → OfPush g im slip over (plan [] (refused refusal.ItemTooBig))
   of-big b = record {

@@ -28,7 +28,7 @@ use Rattle.demand1.proofs.Turning.{NoRoom, find-full, find-fails, find-
 -- the step of a push of m bytes on the image im
 module _ {g : Geometry} {n : ℕ} (S : Laid g n) (m : ℕ) (im : List ℕ) (long : length im ≡ n) where
   young-in : (y : ℕ) → youngest g im ≡ gives y → y < g .pages
-  young-in y e = subst (Tried {W = Unit {0}} Any (λ p. p < g .pages)) e (youngest-in g im (S .some))
+  young-in y e = subst (Tried {W = Unit {0}} Any (λ p. p < g .pages)) e (youngest-in g im (S .sized .some))
 
   -- the image with the start mark of page y
   abbrev marked : ℕ → List ℕ
@@ -124,7 +124,7 @@ module _ {g : Geometry} {n : ℕ} (S : Laid g n) (m : ℕ) (im : List ℕ) (long
 
         by : (t : Try Unit ℕ) → youngest g im ≡ t → spotStep g m over tt im ≡ plan [] (fails tt)
         by (fails v) q = step-lost q
-        by (gives y) q = on y q (young g im (S .some) y q)
+        by (gives y) q = on y q (young g im (S .sized .some) y q)
 
     -- a step that finds the storage full
     pub record FullStep : Type 0 where
@@ -158,10 +158,10 @@ module _ {g : Geometry} {n : ℕ} (S : Laid g n) (m : ℕ) (im : List ℕ) (long
 
         by : (t : Try Unit ℕ) → youngest g im ≡ t → FullStep
         by (fails v) q = absurd (let z = answer-of (step-lost q) e in never (cc))
-        by (gives y) q = on y q (young g im (S .some) y q)
+        by (gives y) q = on y q (young g im (S .sized .some) y q)
 
   pub full-step : Full g im m → spotStep g m false tt im .answer ≡ gives full
-  full-step F = by (young g im (S .some) (F .page) (F .current))
+  full-step F = by (young g im (S .sized .some) (F .page) (F .current))
     where
       y : ℕ
       y = F .page

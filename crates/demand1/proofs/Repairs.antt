@@ -102,7 +102,7 @@ module _ {g : Geometry} {n : ℕ} (S : Laid g n) (im : List ℕ) where
 
   module _ (long : length im ≡ n) where
     pub repaired-long : length (repaired g im) ≡ n
-    repaired-long = frame-after S (repair g im) im long (repair-lies g im (S .some)) .size ∙ long
+    repaired-long = frame-after S (repair g im) im long (repair-lies g im (S .sized .some)) .size ∙ long
 
     pub mended : (p : ℕ) → p < g .pages → Mended g im (repaired g im) p
     unfolding repair
@@ -110,5 +110,5 @@ module _ {g : Geometry} {n : ℕ} (S : Laid g n) (im : List ℕ) where
       where
         by : (t : Bool) → same (state g im p) Corrupted ≡ t → Mended g im (repaired g im) p
         by true e = opened e (all-of g (λ q. same (state g im q) Corrupted ≡ true → state g (repaired g im) q ≡ Open)
-            (mends (allPages g) (all-in g (S .some)) im long) p h e)
-        by false e = kept e (kept-stays p h e (allPages g) (all-in g (S .some)) im long)
+            (mends (allPages g) (all-in g (S .sized .some)) im long) p h e)
+        by false e = kept e (kept-stays p h e (allPages g) (all-in g (S .sized .some)) im long)

@@ -113,7 +113,7 @@ module _ {g : Geometry} {n : ℕ} (S : Laid g n) (b : ℕ) where
       (both-steps S Any (λ p. p < g .pages) (startStep g) start tt tt im jm L) both-on
     where
       start : (u : Unit {0}) → Any u → (im jm : List ℕ) → Alike g n im jm → Both g (Tried Any (λ p. p < g .pages)) (startStep g u im) (startStep g u jm)
-      start u v im jm L = record { one = ap (λ (t : Try Unit ℕ). plan [] t) (oldest-same S L); lies = tt; fine = oldest-in g im (S .some) }
+      start u v im jm L = record { one = ap (λ (t : Try Unit ℕ). plan [] t) (oldest-same S L); lies = tt; fine = oldest-in g im (S .sized .some) }
 
   pub both-peek : (im jm : List ℕ) → Alike g n im jm → Both g Any (peek g im b) (peek g jm b)
   unfolding peek

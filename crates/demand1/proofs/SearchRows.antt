@@ -48,7 +48,7 @@ module _ {g : Geometry} {n : ℕ} (S : Laid g n) (im : List ℕ) (size : length 
     pub lost-only : p .answer ≡ spoilt → p .events ≡ repair g im
 
   old-in : (jm : List ℕ) (old : ℕ) → oldest g jm ≡ gives old → old < g .pages
-  old-in jm old e = subst (Tried {W = Unit {0}} Any (λ p. p < g .pages)) e (oldest-in g jm (S .some))
+  old-in jm old e = subst (Tried {W = Unit {0}} Any (λ p. p < g .pages)) e (oldest-in g jm (S .sized .some))
 
   -- a page finished after the repair was so before it, or Corrupted
   clears-before : (e : Event) → Clears g (repaired g im) e → Clears g im e
@@ -63,10 +63,10 @@ module _ {g : Geometry} {n : ℕ} (S : Laid g n) (im : List ℕ) (size : length 
       by (kept c e) (inr f) = inr (rw (← walk-same S (repaired g im) im p e) f)
 
   repair-clears : Each (Clears g im) (repair g im)
-  repair-clears = repair-does g im (Clears g im) (S .some) (λ p h c. (h, inl (same-is (state g im p) Corrupted c)))
+  repair-clears = repair-does g im (Clears g im) (S .sized .some) (λ p h c. (h, inl (same-is (state g im p) Corrupted c)))
 
   none-copied : copiesIn (repair g im) ≡ []
-  none-copied = copies-none (repair g im) (repair-does g im Kept (S .some) (λ p h c. tt))
+  none-copied = copies-none (repair g im) (repair-does g im Kept (S .sized .some) (λ p h c. tt))
 
   -- the oldest page is found in the image jm, which the events es leave
   searched-from : (jm : List ℕ) (es : List Event) → length jm ≡ n → Each (Clears g im) es → copiesIn es ≡ [] → ((e : Event) → Clears g jm e → Clears g im e)

@@ -35,7 +35,7 @@ module _ {g : Geometry} {n : ℕ} (S : Laid g n) (im : List ℕ) (b old : ℕ) (
   begins size e = record {
     known = record { long = size; pages = λ q h. inr refl };
     fresh = λ j l h. refl;
-    safe = old-sound g im (S .some) old e;
+    safe = old-sound g im (S .sized .some) old e;
   }
 
   step-comes : (clears : Bool) → length im ≡ n → oldest g im ≡ gives old
@@ -48,7 +48,7 @@ module _ {g : Geometry} {n : ℕ} (S : Laid g n) (im : List ℕ) (b old : ℕ) (
 
   -- what is Corrupted later was so from the start
   repair-clears : (cur : List ℕ) → Known S im b old ho cur → Each (Clears g im) (repair g cur)
-  repair-clears cur K = repair-does g cur (Clears g im) (S .some) (λ p h c. (h, inl (by p c (K .pages p h))))
+  repair-clears cur K = repair-does g cur (Clears g im) (S .sized .some) (λ p h c. (h, inl (by p c (K .pages p h))))
     where
       by : (p : ℕ) → same (state g cur p) Corrupted ≡ true → (state g cur p ≡ Open) ⊎ (pageBytes g cur p ≡ pageBytes g im p) → state g im p ≡ Corrupted
       by p c (inl o) = let s = same-is (state g cur p) Corrupted c in cc
@@ -65,7 +65,7 @@ module _ {g : Geometry} {n : ℕ} (S : Laid g n) (im : List ℕ) (b old : ℕ) (
   stops-open : (clears : Bool) (jm : List ℕ) (q : ℕ) → state g jm (next g q) ≡ Open → nextStep g b old clears (afterPage q) jm ≡ endsAt (afterPage q) nothing
   unfolding nextStep nextItem leavePage
   stops-open clears jm q o =
-      let z : 2 * g .pages ≡ suc (2 * g .pages - 1) = omega (arith, S .some) in
+      let z : 2 * g .pages ≡ suc (2 * g .pages - 1) = omega (arith, S .sized .some) in
       rw (z, o)
 
   -- a search from the oldest page, with its repair
@@ -93,7 +93,7 @@ module _ {g : Geometry} {n : ℕ} (S : Laid g n) (im : List ℕ) (b old : ℕ) (
       settle {es} {t} q f r a = rw q (record { clears = each-append (Clears g im) es [] f tt; copies = ap copiesIn (append-nil es) ∙ r; answered = a })
 
       none : (j : List ℕ) → copiesIn (repair g j) ≡ []
-      none j = copies-none (repair g j) (repair-does g j Kept (S .some) (λ p h c. tt))
+      none j = copies-none (repair g j) (repair-does g j Kept (S .sized .some) (λ p h c. tt))
 
       by : Came S im b old ho (onTheWay g im old (from g old)) im (step at im) → Went (searchOn g b (gives old) im)
       by (ends s a) = settle (steps-gives g step at im a) (C .clears) (C .copies) refl

@@ -86,7 +86,7 @@ module _ {g : Geometry} {n : ℕ} (S : Laid g n) (im : List ℕ) (long : length 
   end-walked a v k =
       let L = layout S p in
       let m : ℕ = dataEnd g p - a in
-      walked g (S .low) a (dataEnd g p) (L .end-whole) 0 a (part a m im) (omega arith)
+      walked g (S .sized .low) a (dataEnd g p) (L .end-whole) 0 a (part a m im) (omega arith)
       (ap (λ (x : ℕ). a + x) (length-part a m im (omega (arith, page-in g p h, S .ends))) ∙ omega arith)
       (moved (g .word) a (a + 0) (sym (add-zero a)) v)
 
@@ -111,7 +111,7 @@ module _ {g : Geometry} {n : ℕ} (S : Laid g n) (im : List ℕ) (long : length 
       let w = page-walked in
       let L = layout S p in
       room-in (dataEnd g p - r) m (w .spot-aligned) (omega (arith, w .rest-short))
-      (omega (arith, w .rest-short, header-behind g (S .low) r m k, round-down-le (g .word) r))
+      (omega (arith, w .rest-short, header-behind g (S .sized .low) r m k, round-down-le (g .word) r))
 
   pub page-room : (m : ℕ) → headerSize g + roundUp (g .word) m ≤ dataSize g → Room g (dataStart g p) m
   page-room m k = let L = layout S p in room-in (dataStart g p) m (L .data-whole) (omega arith) (omega arith)

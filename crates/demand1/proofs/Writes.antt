@@ -49,7 +49,7 @@ module _ {g : Geometry} {n : ℕ} (S : Laid g n) where
   -- where an item has room
   module _ (a m : ℕ) (R : Room g a m) where
     pub header-lies : (c k : ℕ) → Each (Lies g) (writes g a (encode g c k))
-    header-lies c k = writes-lie a (encode g c k) (R .aligned) (R .low) (omega (arith, encode-whole g (S .low) c k, R .high))
+    header-lies c k = writes-lie a (encode g c k) (R .aligned) (R .low) (omega (arith, encode-whole g (S .sized .low) c k, R .high))
 
   pub item-lies : (a : ℕ) (slip : List ℕ) → Room g a (length slip) → Each (Lies g) (itemAt g a slip)
   unfolding itemAt

@@ -60,7 +60,7 @@ new-heads {g} {im} {S} {jm} {hs = hs} R p hp h m = by (eqb p (current S)) refl
 
 module _ {g : Geometry} {im : List ℕ} {S : Site g im} {slip : List ℕ} (F : Writable S slip) where
   pos : 0 < g .word
-  pos = S .inv .good .low
+  pos = S .inv .good .sized .low
 
   -- no word
   no-word : Added S slip 0 im

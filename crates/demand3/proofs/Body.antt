@@ -51,7 +51,7 @@ begun-all s m h = let z : length s - m ≡ 0 = omega arith in rw (take-all m s h
 module _ {g : Geometry} {im : List ℕ} {S : Site g im} {slip : List ℕ} (F : Writable S slip) (j : ℕ) (hj : j ≤ itemWords g slip)
     (h : headerSize g ≤ j * g .word) where
   pos : 0 < g .word
-  pos = S .inv .good .low
+  pos = S .inv .good .sized .low
 
   abbrev m : ℕ
   m = paid F j hj h

@@ -111,4 +111,4 @@ module _ {g : Geometry} (im : List ℕ) (G : Laid g (length im)) (p : ℕ) (hp :
 
   -- an erased page has no head and refuses nothing
   pub erased-walk : pageWalk g (imageBy g (erase p) im) p ≡ record { heads = []; refused = []; rest = replicate (dataSize g) 255 }
-  erased-walk = walk-this erase-changed ∙ blank-walk g (G .low) (dataStart g p) (replicate (dataSize g) 255) (blank-replicate (dataSize g))
+  erased-walk = walk-this erase-changed ∙ blank-walk g (G .sized .low) (dataStart g p) (replicate (dataSize g) 255) (blank-replicate (dataSize g))

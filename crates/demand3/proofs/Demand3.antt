@@ -72,7 +72,7 @@ hold-on {g} {im} {gh} H c w F =
     es = eventsOf g im c w
 
     only : (q : ℕ) → List·Memᴰ q (allPages g) → q < g .pages
-    only q = pages-only g q (H .inv .good .some)
+    only q = pages-only g q (H .inv .good .sized .some)
 
     by : (p : ℕ) → p < g .pages → (h : Head) → List·Memᴰ (h .place) (headerAt g im c w 0) ⊎ Was g im p (h .place) es
         → List·Memᴰ (h .place) (headerAt g im c w 0 ++ kept g es (gh .begun))

@@ -26,30 +26,30 @@ use Rattle.demand3.proofs.Invariant.{PageOk, Inv, erased-ok, listed, op
 
 module _ {g : Geometry} (im : List ℕ) (G : Laid g (length im)) (E : (p : ℕ) → p < g .pages → view g im p ≡ erasedView g) where
   open-page : (i : ℕ) → i < g .pages → state g im (turn g 0 i) ≡ Open
-  open-page i h = view-state g im (turn g 0 i) (E (turn g 0 i) (turn-lt g 0 i (G .some) (omega arith))) ∙ rw (ones-unset (g .word))
+  open-page i h = view-state g im (turn g 0 i) (E (turn g 0 i) (turn-lt g 0 i (G .sized .some) (omega arith))) ∙ rw (ones-unset (g .word))
 
   pub fresh-inv : Inv g im 0 0
   fresh-inv = record {
     good = G;
     shape = record {
-      old-in = G .some;
-      run-in = G .some;
+      old-in = G .sized .some;
+      run-in = G .sized .some;
       closed = λ i h. let w : ⊥ = omega arith in absurd w;
-      now = openAll (open-page 0 (G .some)) refl refl;
+      now = openAll (open-page 0 (G .sized .some)) refl refl;
       opens = λ i h k. open-page i k;
     };
-    pages-ok = λ p h. subst (PageOk g p) (sym (E p h)) (erased-ok g (G .low) p);
+    pages-ok = λ p h. subst (PageOk g p) (sym (E p h)) (erased-ok g (G .sized .low) p);
   }
 
   pub fresh-list : waiting g im ≡ []
   unfolding run
   fresh-list = listed fresh-inv
-      ∙ ap (λ (l : List (List ℕ)). l ++ []) (open-empty fresh-inv (turn g 0 0) (turn-lt g 0 0 (G .some) (omega arith)) (open-page 0 (G .some)))
+      ∙ ap (λ (l : List (List ℕ)). l ++ []) (open-empty fresh-inv (turn g 0 0) (turn-lt g 0 0 (G .sized .some) (omega arith)) (open-page 0 (G .sized .some)))
 
   -- nothing is accepted
   pub fresh-heads : (p : ℕ) → p < g .pages → (h : Head) → List·Memᴰ h (pageWalk g im p .heads) → ⊥
   fresh-heads p hp h m =
-      let e = view-walk g im p (E p hp) ∙ blank-walk g (G .low) (dataStart g p) (replicate (dataSize g) 255) (blank-replicate (dataSize g)) in
+      let e = view-walk g im p (E p hp) ∙ blank-walk g (G .sized .low) (dataStart g p) (replicate (dataSize g) 255) (blank-replicate (dataSize g)) in
       List·Memᴰ·not-nil (subst (λ (w : Walk). List·Memᴰ h (w .heads)) e m)
 
 -- ---- after the erases of some pages

@@ -68,7 +68,7 @@ module _ {g : Geometry} {im : List ℕ} {o b : ℕ} (I : Inv g im o b) where
             now = rw (turn-suc g o (b - 1) (S .old-in) (omega arith), z, same-state b hb r) (one-closer (side 1 b) (S .now));
             opens = λ i h k. rw (turn-suc g o i (S .old-in) (omega arith)) (opens i h k (side (suc i) (g .pages)));
           };
-          pages-ok = pages-still-ok I C (erased-ok g (I .good .low) o);
+          pages-ok = pages-still-ok I C (erased-ok g (I .good .sized .low) o);
         }
 
     pub erase-drops : waiting g (imageBy g (erase o) im) ≡ run g im o 1 b
@@ -104,7 +104,7 @@ module _ {g : Geometry} {im : List ℕ} {o b : ℕ} (I : Inv g im o b) where
             now = openAll sole-open (omega arith) refl;
             opens = λ i k l. let z : ⊥ = omega arith in absurd z;
           };
-          pages-ok = pages-still-ok I C (erased-ok g (I .good .low) o);
+          pages-ok = pages-still-ok I C (erased-ok g (I .good .sized .low) o);
         }
 
     pub sole-drops : waiting g (imageBy g (erase o) im) ≡ run g im o 1 b

@@ -57,11 +57,11 @@ module _ {g : Geometry} {im : List ℕ} (S : Site g im) where
 
   -- what stands before the free spot
   pub front : List ℕ
-  front = frontOf g (I .good .low) (dataStart g (current S)) (pageData g im (current S))
+  front = frontOf g (I .good .sized .low) (dataStart g (current S)) (pageData g im (current S))
 
   pub split : pageData g im (current S) ≡ front ++ scanned S .rest
   unfolding front pageWalk
-  split = front-split g (I .good .low) (dataStart g c) (pageData g im c)
+  split = front-split g (I .good .sized .low) (dataStart g c) (pageData g im c)
 
   pub sizes : length front + length (scanned S .rest) ≡ dataSize g
   sizes = sym (length-append front (scanned S .rest)) ∙ ap length (sym split) ∙ inner-length im (I .good) c site-in
@@ -116,7 +116,8 @@ module _ {g : Geometry} {im : List ℕ} {S : Site g im} {jm t : List ℕ} {hs : 
       let a : ℕ = dataStart g (current S) in
       let d : List ℕ = pageData g im (current S) in
       let W : Walk = walk g 0 a d in
-      rewalk g (I₁ .good .low) a d t (rest-blank S (R .room)) (R .long) (subst (λ (w : Walk). NoneAccepted (W .refused) (w .heads)) (walk-this C) (R .unmet))
+      rewalk g (I₁ .good .sized .low) a d t (rest-blank S (R .room)) (R .long)
+      (subst (λ (w : Walk). NoneAccepted (W .refused) (w .heads)) (walk-this C) (R .unmet))
       ∙ ap (after (W .heads) (W .refused)) (ap (λ (x : ℕ). walk g 0 x t) (sym (spot-at S)) ∙ R .scan)
 
   pub grow-walk : pageWalk g jm (current S) ≡ new

@@ -81,7 +81,7 @@ page-range : {g : Geometry} (im : List ℕ) → Laid g (length im) → (p : ℕ)
     → Within (pageStart g p) (g .page) x
 unfolding pageWalk
 page-range {g} im G p hp x c =
-    let pos = G .low in
+    let pos = G .sized .low in
     let l = inner-length im G p hp in
     let r = course-range g pos (course-of g pos (dataStart g p) (pageData g im p)) x (met c) in
     (omega (arith, r .0, inner-low g p 0), omega (arith, r .1, inner-high G p 0 (dataSize g) (omega arith)))

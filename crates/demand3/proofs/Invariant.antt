@@ -67,7 +67,7 @@ module _ {g : Geometry} {im : List ℕ} {o b : ℕ} (I : Inv g im o b) where
   -- an Open page, to the scan
   pub open-walk : (p : ℕ) → p < g .pages → state g im p ≡ Open → pageWalk g im p ≡ record { heads = []; refused = []; rest = pageData g im p }
   unfolding pageWalk
-  open-walk p h e = blank-walk g (I .good .low) (dataStart g p) (pageData g im p) (I .pages-ok p h .untouched (sym (view-state g im p refl) ∙ e))
+  open-walk p h e = blank-walk g (I .good .sized .low) (dataStart g p) (pageData g im p) (I .pages-ok p h .untouched (sym (view-state g im p refl) ∙ e))
 
   pub open-empty : (p : ℕ) → p < g .pages → state g im p ≡ Open → presentIn g im p ≡ []
   unfolding payloads

@@ -48,7 +48,7 @@ module _ {g : Geometry} {im : List ℕ} {o b : ℕ} (I : Inv g im o b) where
 
     is-partial : stateIn v ≡ PartialOpen
     unfolding state
-    is-partial = rw (zeros-set (g .word) (I .good .low), open-end (isSet (startMark g im c)) (isSet (endMark g im c)) e)
+    is-partial = rw (zeros-set (g .word) (I .good .sized .low), open-end (isSet (startMark g im c)) (isSet (endMark g im c)) e)
 
     pub mark-walks : (q : ℕ) → q < g .pages → pageWalk g (imageBy g (setStart g (turn g o b)) im) q ≡ pageWalk g im q
     mark-walks = walks-same C refl
@@ -82,7 +82,7 @@ module _ {g : Geometry} {im : List ℕ} {o b : ℕ} (I : Inv g im o b) where
 
     is-closed : stateIn u ≡ Closed
     unfolding state
-    is-closed = rw (zeros-set (g .word) (I .good .low), partial-start (isSet (startMark g im c)) (isSet (endMark g im c)) e)
+    is-closed = rw (zeros-set (g .word) (I .good .sized .low), partial-start (isSet (startMark g im c)) (isSet (endMark g im c)) e)
 
     same-state : (i : ℕ) → i < g .pages → (i ≡ b → ⊥) → state g (imageBy g (setEnd g (turn g o b)) im) (turn g o i) ≡ state g im (turn g o i)
     same-state i h ne = state-other D (turn g o i) (turn-in I i (omega arith)) (not-current I i h ne)

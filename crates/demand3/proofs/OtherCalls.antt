@@ -31,7 +31,7 @@ repairs-none g im (p ∷ ps) f = rw (f p (List·Memᴰ·head refl)) (repairs-non
 
 module _ {g : Geometry} {im : List ℕ} {o b : ℕ} (I : Inv g im o b) where
   only : (q : ℕ) → List·Memᴰ q (allPages g) → q < g .pages
-  only q = pages-only g q (I .good .some)
+  only q = pages-only g q (I .good .sized .some)
 
   pub no-repairs : repair g im ≡ []
   unfolding repair

@@ -72,7 +72,7 @@ module _ {g : Geometry} {im : List ℕ} {o b : ℕ} (I : Inv g im o b) (gh : Gho
   Reads k = part a₀ (headerSize g) (imageNext g im (pushes slip false) (cutAfter k)) ≡ encode g (dataCrc slip) (length slip)
 
   pos : 0 < g .word
-  pos = I .good .low
+  pos = I .good .sized .low
 
   begins : (k n : ℕ) → headerAt g im (pushes slip false) (cutAfter k) n ≡ cond (ltb (storeCount es + n) k) (a₀ ∷ []) []
   unfolding headerAt headerPlan

@@ -82,7 +82,7 @@ module _ {g : Geometry} {im : List ℕ} {h : Head} (F : PresentItem g im h) wher
   d = pageData g im (F .page)
 
   pos : 0 < g .word
-  pos = I .good .low
+  pos = I .good .sized .low
 
   pub item-in : F .page < g .pages
   item-in = subst (λ (x : ℕ). x < g .pages) (F .page-is) (turn-in I t (omega (arith, F .in-run, I .shape .run-in)))

@@ -120,13 +120,13 @@ module _ {g : Geometry} {im : List ℕ} {o b : ℕ} (I : Inv g im o b) (gh : Gho
       some-of i k l = ap (part a (headerSize g)) (image-append g es (before i it) im ∙ after-words W i k) ∙ header-reads W i k l
 
       all-of : (i : ℕ) → n ≤ i → before i it ≡ it
-      all-of i k = before-all i it (omega (arith, count-item g (I .good .low) slip a))
+      all-of i k = before-all i it (omega (arith, count-item g (I .good .sized .low) slip a))
 
       by : Side j n → part a (headerSize g) (imageAfter g (es ++ before j it) im) ≡ encode g (dataCrc slip) (length slip)
       by (below l) = some-of j (omega arith) h
       by (above l) =
           ap (λ (x : List Event). part a (headerSize g) (imageAfter g (es ++ x) im)) (all-of j l ∙ sym (all-of n (omega arith)))
-          ∙ some-of n (omega arith) (omega (arith, item-size g (I .good .low) slip))
+          ∙ some-of n (omega arith) (omega (arith, item-size g (I .good .sized .low) slip))
 
   words-traced : (w : Power) (j : ℕ) → (0 < j → headerAt g im (pushes slip false) w 0 ≡ spotOf (R .site) ∷ [])
       → Added (R .site) slip j (imageAfter g (es ++ before j it) im) → Traced g im (pushes slip false) w (es ++ before j it)
@@ -154,13 +154,13 @@ module _ {g : Geometry} {im : List ℕ} {o b : ℕ} (I : Inv g im o b) (gh : Gho
         some (below z) = z
         some (above z) =
             let y : (k - storeCount es) * g .word ≤ 0 * g .word = mul-le-mul-right (g .word) z in
-            let w : ⊥ = omega (arith, header-ge g (I .good .low)) in absurd w
+            let w : ⊥ = omega (arith, header-ge g (I .good .sized .low)) in absurd w
 
     pub at-step : (w : Power) → Fair g im gh (pushes slip false) w → Step g im (pushes slip false) w
     unfolding imageNext ghostNext eventsOf
     at-step whole F =
         let n : ℕ = itemWords g slip in
-        let all : before n it ≡ it = before-all n it (omega (arith, count-item g (I .good .low) slip a)) in
+        let all : before n it ≡ it = before-all n it (omega (arith, count-item g (I .good .sized .low) slip a)) in
         let F₁ : StayRefused g im gh (es ++ before n it) = rw all (λ nw. rw pl at (F .noneAgain nw)) in
         let A = words-added n F₁ (λ h k. let z : ⊥ = omega arith in absurd z) in
         let T = words-traced whole n (λ k. header-is g im slip t es a q whole 0 refl) A in

@@ -191,7 +191,7 @@ module _ {g : Geometry} {jm : List ℕ} {o b : ℕ} (I : Inv g jm o b) {old : �
         first = record { old = o; runs = b; inv = I; pre = pre; post = post; heads-are = hs; none-before = ip; is-present = ph }
 
         fits : h .len ≤ u
-        fits = round-up-ge (g .word) (h .len) (I .good .low)
+        fits = round-up-ge (g .word) (h .len) (I .good .sized .low)
 
         room : h .len ≤ length (part a u jm)
         room = omega (arith, length-take u (drop a jm), length-take (h .len) (drop a jm), ap length (body-at first), body-length first, fits)

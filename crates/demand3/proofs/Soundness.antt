@@ -89,7 +89,7 @@ module _ {g : Geometry} {im : List ℕ} {o b : ℕ} (I : Inv g im o b) where
   space-counts : (n : ℕ) × (planOf g im spaces ≡ plan [] (number n))
   unfolding planOf spaceLeft counted
   space-counts =
-      let r = pages-count (allPages g) (λ p m. pages-only g p (I .good .some) m) in
+      let r = pages-count (allPages g) (λ p m. pages-only g p (I .good .sized .some) m) in
       let e : plan [] (space g im) ≡ plan [] (gives (number (r .0))) = ap (λ (t : Try Unit Answer). plan [] t) (space-is (r .0) (r .1)) in
       (r .0, bind-last g im (λ t im₁. plan [] (settled (refused refusal.Corrupted) t)) (no-repair g im (λ u im₁. plan [] (space g im₁)) tt e) refl)
 

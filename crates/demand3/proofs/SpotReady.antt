@@ -52,7 +52,7 @@ ready-mark {g} im n fits over es T {o} {b} I e =
           (rests (record { old = o; runs = b; inv = mark-inv I e; list = mark-list I e ∙ l })));
       site = record { old = o; runs = b; inv = rw after (mark-inv I e); partly-now = rw after (mark-state I e) };
       at-spot = rw after (sym (free-start g km c all));
-      room = rw (after, all) (serves-room g (dataSize g) n (G .low) (rw (data-whole g (G .whole)) fits));
+      room = rw (after, all) (serves-room g (dataSize g) n (G .sized .low) (rw (data-whole g (G .sized .whole)) fits));
       origin = inl (rw (after, scan));
     }
   where

@@ -57,7 +57,7 @@ serves-le g r n e = leb-true (headerSize g + n) (roundDown (g .word) (length r))
 
 pub serves-all : {g : Geometry} {m : ℕ} → Laid g m → (r : List ℕ) (n : ℕ) → length r ≡ dataSize g → headerSize g + n ≤ dataSize g → serves g r n ≡ true
 unfolding serves
-serves-all {g} G r n l fits = rw (l, data-whole g (G .whole)) (le-leb (headerSize g + n) (dataSize g) fits)
+serves-all {g} G r n l fits = rw (l, data-whole g (G .sized .whole)) (le-leb (headerSize g + n) (dataSize g) fits)
 
 -- ---- the cases
 
@@ -111,7 +111,7 @@ module _ {g : Geometry} {im : List ℕ} {o b : ℕ} (I : Inv g im o b) (n : ℕ)
       way = stays (rests K);
       site = record { old = o; runs = b; inv = I; partly-now = e };
       at-spot = refl;
-      room = serves-room g (length (pageWalk g im c .rest)) n (I .good .low) (serves-le g (pageWalk g im c .rest) n s);
+      room = serves-room g (length (pageWalk g im c .rest)) n (I .good .sized .low) (serves-le g (pageWalk g im c .rest) n s);
       origin = inr (tt, refl);
     }) (λ v. served s)
 

@@ -47,7 +47,7 @@ view-equal p q r = cc
 -- ---- where pages lie
 
 pub page-split : {g : Geometry} {n : ℕ} → Laid g n → g .page ≡ g .word + dataSize g + g .word
-page-split {g} G = page-bytes.page-split g (omega (arith, G .room))
+page-split {g} G = page-bytes.page-split g (omega (arith, G .sized .room))
 
 pub inner-low : (g : Geometry) (p i : ℕ) → pageStart g p ≤ dataStart g p + i
 unfolding dataStart
@@ -80,7 +80,7 @@ module _ {g : Geometry} (im : List ℕ) (G : Laid g (length im)) where
   pub elsewhere : (q a : ℕ) (x : List ℕ) → q < g .pages → pageStart g q ≤ a → a + length x ≤ pageStart g q + g .page
       → (p : ℕ) → p < g .pages → (p ≡ q → ⊥) → view g (put a x im) p ≡ view g im p
   elsewhere q a x hq low high p hp ne =
-      let m : 2 * g .word ≤ g .page = omega (arith, G .room) in
+      let m : 2 * g .word ≤ g .page = omega (arith, G .sized .room) in
       let e = put-elsewhere g im (G .ends) q a x hq low high p hp ne in
       view-equal (page-bytes.start-part g m (put a x im) p ∙ ap (part 0 (g .word)) e ∙ sym (page-bytes.start-part g m im p))
       (page-bytes.data-part g m (put a x im) p ∙ ap (part (g .word) (dataSize g)) e ∙ sym (page-bytes.data-part g m im p))

@@ -54,7 +54,7 @@ module _ {g : Geometry} {im : List ℕ} {S : Site g im} {slip : List ℕ} (F : W
   rest = scanned S .rest
 
   pos : 0 < g .word
-  pos = S .inv .good .low
+  pos = S .inv .good .sized .low
 
   has-room : headerSize g ≤ length (scanned S .rest)
   has-room = omega (arith, F .room)
@@ -216,7 +216,7 @@ module _ {g : Geometry} {im : List ℕ} {S : Site g im} {slip : List ℕ} (F : W
   -- words of 4, and only the first word of the header is there
   module _ (w4 : g .word ≡ 4) where
     abbrev one : 1 ≤ itemWords g slip
-    one = one-word g (S .inv .good .low) slip
+    one = one-word g (S .inv .good .sized .low) slip
 
     half-tail : tail-now 1 one ≡ bytesOf 4 (dataCrc slip) ++ drop 4 (scanned S .rest)
     unfolding tail-now written itemBytes encode bytesOf

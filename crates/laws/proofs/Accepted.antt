@@ -12,6 +12,7 @@ use Rattle.paper.specs.declared.Geometry.{Geometry}
 use Rattle.paper.specs.declared.Shape.{Shape}
 use Rattle.paper.specs.Chip.{roundUp, headerSize, rangeEnd}
 use Rattle.paper.specs.Refusals.{Rule, rules, judge, check, allowedWord, geometryOf, pageCount, wordLimit, pageLimit, pageCountLimit}
+use Rattle.laws.specs.Sized.{Sized}
 
 -- words of 4, and wider ones, which hold a header each
 pub data Word (w : ℕ) : Type 0 where
@@ -20,15 +21,9 @@ pub data Word (w : ℕ) : Type 0 where
 
 -- a geometry laid over an image of n bytes
 pub record Laid (g : Geometry) (n : ℕ) : Type 0 where
+  pub sized : Sized g
   pub word : Word (g .word)
-  pub low : 0 < g .word
-  pub high : g .word ≤ wordLimit
-  pub whole : g .word ∣ g .page
   pub aligned : g .word ∣ g .start
-  pub room : 3 * g .word + headerSize g ≤ g .page
-  pub small : g .page ≤ pageLimit
-  pub some : 0 < g .pages
-  pub few : g .pages ≤ pageCountLimit
   pub ends : rangeEnd g ≤ n
 
 -- and the shape that it came from
@@ -93,15 +88,17 @@ module _ (n : ℕ) (s : Shape) where
       div-mul-cancel (s .page) {m = s .end - s .start} (dvd-sub (s .page) end start) in
       record {
         laid = record {
+          sized = record {
+            low = word-positive word;
+            high = ltb-false wordLimit (s .word) (k .1 .1 .1 .1 .1 .0);
+            whole = whole;
+            room = ltb-false (s .page) (3 * s .word + roundUp (s .word) 8) (k .1 .1 .1 .1 .0);
+            small = ltb-false pageLimit (s .page) (c .0);
+            some = le-div-iff-mul-le {k = s .page} {x = 1} {y = s .end - s .start} page .1 (omega arith);
+            few = ltb-false pageCountLimit (pageCount s) (c .1);
+          };
           word = word;
-          low = word-positive word;
-          high = ltb-false wordLimit (s .word) (k .1 .1 .1 .1 .1 .0);
-          whole = whole;
           aligned = dvd-trans (s .word) whole start;
-          room = ltb-false (s .page) (3 * s .word + roundUp (s .word) 8) (k .1 .1 .1 .1 .0);
-          small = ltb-false pageLimit (s .page) (c .0);
-          some = le-div-iff-mul-le {k = s .page} {x = 1} {y = s .end - s .start} page .1 (omega arith);
-          few = ltb-false pageCountLimit (pageCount s) (c .1);
           ends = omega arith;
         };
         starts-at = refl;

@@ -1,1 +1,2 @@
-// Laws about the paper's definitions that several crates cite: proofs/ has them. There is no function here.
+// Laws about the paper's definitions that several crates cite: proofs/ has them, and specs/ what they and the contracts are given.
+// There is no function here.

@@ -59,7 +59,7 @@ module _ {g : Geometry} {b : Budget} {i o : List ℕ} {r : Spent} (im : List ℕ
 erase-elsewhere : (g : Geometry) (im : List ℕ) → Within g (length im) → (p q : ℕ) → p < g .pages → q < g .pages → (q ≡ p → ⊥)
     → state g (imageAfter g (erasePage g p) im) q ≡ state g im q
 erase-elsewhere g im w p q hp hq n =
-    let marks : 2 * g .word ≤ g .page = omega (arith, w .good .room) in
+    let marks : 2 * g .word ≤ g .page = omega (arith, w .good .sized .room) in
     state-same g marks (imageAfter g (erasePage g p) im) im q (erase-others g p im (w .ends) hp q hq n)
 
 pub repairs-elsewhere : (g : Geometry) (im : List ℕ) → Within g (length im) → (p q : ℕ) → p < g .pages → q < g .pages → (q ≡ p → ⊥)

@@ -2,7 +2,6 @@
 use mathlib.Core.Path.{_≡_, refl, sym, _∙_}
 use mathlib.Core.Bool.{Bool, true, false, false≢true}
 use Prim.Native.Nat.{ℕ, _+_, _≤_, _<_}
-use native.Mathlib.Nat.{dvd-of-mod-eq-zero}
 use native.Mathlib.Omega.{arith}
 use borrow.Author.Tests.{ltb-true, ltb-false, lt-ltb, le-ltb}
 use lib.Dec.{ltb}
@@ -39,6 +38,6 @@ module _ (g : Geometry) (n : ℕ) where
     pub fresh-in : {m p : ℕ} → Within g m → p < g .pages → after g (dataStart g p) n ≤ rangeEnd g
     fresh-in {m} {p} w h =
         let d = data-in g p m w h in
-        let q = data-whole g (dvd-of-mod-eq-zero (g .word) (w .good .whole)) in
+        let q = data-whole g (w .good .sized .whole) in
         let f = item-fits g n (dataSize g) (w .good) (omega (arith, small-data)) in
         omega (arith, page-in g p h)

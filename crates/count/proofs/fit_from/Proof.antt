@@ -16,8 +16,8 @@ cast-i c = search needs
 
 array-copy-out-state : tie.Need-array-copy-out-state
 array-copy-out-state c =
-    let pre-0-good-few = c .before .before .before .pre .0 .good .few in
-    omega (arith, c .before .next-page .ensures .1, pre-0-good-few)
+    let pre-0-good-sized-few = c .before .before .before .pre .0 .good .sized .few in
+    omega (arith, c .before .next-page .ensures .1, pre-0-good-sized-few)
 
 enum-told : tie.Need-enum-told
 enum-told c = search needs

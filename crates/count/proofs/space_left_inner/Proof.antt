@@ -25,13 +25,13 @@ loop-holds c = (omega arith, omega arith, sum-first (c .before .before .args .g)
 
 cast-i : tie.Need-cast-i Inv-loop μ-loop
 cast-i c =
-    let pre-good-few = c .before .before .before .before .before .pre .good .few in
-    omega (arith, pre-good-few)
+    let pre-good-sized-few = c .before .before .before .before .before .pre .good .sized .few in
+    omega (arith, pre-good-sized-few)
 
 array-copy-out-state : tie.Need-array-copy-out-state Inv-loop μ-loop
 array-copy-out-state c =
-    let pre-good-few = c .before .before .before .before .before .pre .good .few in
-    omega (arith, pre-good-few)
+    let pre-good-sized-few = c .before .before .before .before .before .pre .good .sized .few in
+    omega (arith, pre-good-sized-few)
 
 is-same-requires : tie.Need-is-same-requires Inv-loop μ-loop
 is-same-requires c κs = tt
@@ -54,18 +54,18 @@ space-in-page-requires c κs =
 
 add-total-free-space : tie.Need-add-total-free-space Inv-loop μ-loop
 add-total-free-space c =
-    let pre-good-few = c .before .before .before .before .before .before .before .before .before .pre .good .few in
-    omega (arith, pre-good-few, c .space-in-page .ensures .small)
+    let pre-good-sized-few = c .before .before .before .before .before .before .before .before .before .pre .good .sized .few in
+    omega (arith, pre-good-sized-few, c .space-in-page .ensures .small)
 
 add-page-index : tie.Need-add-page-index Inv-loop μ-loop
 add-page-index c =
-    let pre-good-few = c .before .before .before .before .before .before .before .before .before .pre .good .few in
-    omega (arith, pre-good-few)
+    let pre-good-sized-few = c .before .before .before .before .before .before .before .before .before .pre .good .sized .few in
+    omega (arith, pre-good-sized-few)
 
 loop-less : tie.Need-loop-less Inv-loop μ-loop
 loop-less c =
-    let pre-good-few = c .before .before .before .before .before .before .before .before .before .pre .good .few in
-    omega (arith, pre-good-few)
+    let pre-good-sized-few = c .before .before .before .before .before .before .before .before .before .pre .good .sized .few in
+    omega (arith, pre-good-sized-few)
 
 loop-again : tie.Need-loop-again Inv-loop μ-loop
 loop-again c =

@@ -26,8 +26,8 @@ cast-i c = omega arith
 
 array-copy-out-s : tie.Need-array-copy-out-s Inv-loop μ-loop
 array-copy-out-s c =
-    let pre-0-few = c .before .before .before .pre .0 .few in
-    omega (arith, pre-0-few)
+    let pre-0-sized-few = c .before .before .before .pre .0 .sized .few in
+    omega (arith, pre-0-sized-few)
 
 is-same-requires : tie.Need-is-same-requires Inv-loop μ-loop
 is-same-requires c κs = search needs

@@ -9,7 +9,7 @@ use Rattle.page.proofs.find_open_page.Statement.{statement}
 use Rattle.page.proofs.find_open_page.Tie as tie
 
 find-first-page-requires : tie.Need-find-first-page-requires
-find-first-page-requires c κs = (c .pre, c .pre .some)
+find-first-page-requires c κs = (c .pre, c .pre .sized .some)
 
 enum-told : tie.Need-enum-told
 enum-told c = search needs
@@ -52,7 +52,7 @@ returns-3 c =
     let args = c .before .before .before .args in
     let pre = c .before .before .before .pre in
     let e = ap soughtAs (c .enum-told2 .given .1) in
-    sees-on (openFrom (args .g)) (c .before .before .find-first-page .ensures) e (sees-page 0 (pre .some))
+    sees-on (openFrom (args .g)) (c .before .before .find-first-page .ensures) e (sees-page 0 (pre .sized .some))
 
 pub find-open-page-spec : {M : Type 1} → statement M
 find-open-page-spec =

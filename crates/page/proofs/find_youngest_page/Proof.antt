@@ -17,7 +17,7 @@ abbrev then : Geometry → List ℕ → Found → Try Unit ℕ
 then g im x = foundOr x (openFrom g im (first g im Closed (allPages g)))
 
 find-first-page-requires : tie.Need-find-first-page-requires
-find-first-page-requires c κs = (c .pre, c .pre .some)
+find-first-page-requires c κs = (c .pre, c .pre .sized .some)
 
 enum-told : tie.Need-enum-told
 enum-told c = search needs

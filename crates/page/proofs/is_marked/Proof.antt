@@ -31,13 +31,13 @@ loop-holds c = (omega arith, omega arith, (rw (add-zero, sub-zero) (omega arith)
 
 add-b : tie.Need-add-b Inv-loop μ-loop
 add-b c =
-    let pre-0-high = c .before .before .before .before .before .pre .0 .high in
-    omega (arith, pre-0-high)
+    let pre-0-sized-high = c .before .before .before .before .before .pre .0 .sized .high in
+    omega (arith, pre-0-sized-high)
 
 shared-slice-read-b : tie.Need-shared-slice-read-b Inv-loop μ-loop
 shared-slice-read-b c =
-    let pre-0-high = c .before .before .before .before .before .before .pre .0 .high in
-    omega (arith, pre-0-high)
+    let pre-0-sized-high = c .before .before .before .before .before .before .pre .0 .sized .high in
+    omega (arith, pre-0-sized-high)
 
 zero-bits-requires : tie.Need-zero-bits-requires Inv-loop μ-loop
 zero-bits-requires c κs = search needs
@@ -54,13 +54,13 @@ returns c =
 
 add-i : tie.Need-add-i Inv-loop μ-loop
 add-i c =
-    let pre-0-high = c .before .before .before .before .before .before .before .pre .0 .high in
-    omega (arith, pre-0-high)
+    let pre-0-sized-high = c .before .before .before .before .before .before .before .pre .0 .sized .high in
+    omega (arith, pre-0-sized-high)
 
 loop-less : tie.Need-loop-less Inv-loop μ-loop
 loop-less c =
-    let pre-0-high = c .before .before .before .before .before .before .before .pre .0 .high in
-    omega (arith, pre-0-high)
+    let pre-0-sized-high = c .before .before .before .before .before .before .before .pre .0 .sized .high in
+    omega (arith, pre-0-sized-high)
 
 loop-again : tie.Need-loop-again Inv-loop μ-loop
 loop-again c =

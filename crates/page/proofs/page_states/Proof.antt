@@ -25,23 +25,23 @@ get-page-state-requires c κs =
 
 cast-i : tie.Need-cast-i Inv-loop μ-loop
 cast-i c =
-    let pre-good-few = c .before .before .before .before .before .pre .good .few in
-    omega (arith, pre-good-few)
+    let pre-good-sized-few = c .before .before .before .before .before .pre .good .sized .few in
+    omega (arith, pre-good-sized-few)
 
 array-set-from-table : tie.Need-array-set-from-table Inv-loop μ-loop
 array-set-from-table c =
-    let pre-good-few = c .before .before .before .before .before .pre .good .few in
-    omega (arith, pre-good-few)
+    let pre-good-sized-few = c .before .before .before .before .before .pre .good .sized .few in
+    omega (arith, pre-good-sized-few)
 
 add-p : tie.Need-add-p Inv-loop μ-loop
 add-p c =
-    let pre-good-few = c .before .before .before .before .before .pre .good .few in
-    omega (arith, pre-good-few)
+    let pre-good-sized-few = c .before .before .before .before .before .pre .good .sized .few in
+    omega (arith, pre-good-sized-few)
 
 loop-less : tie.Need-loop-less Inv-loop μ-loop
 loop-less c =
-    let pre-good-few = c .before .before .before .before .before .pre .good .few in
-    omega (arith, pre-good-few)
+    let pre-good-sized-few = c .before .before .before .before .before .pre .good .sized .few in
+    omega (arith, pre-good-sized-few)
 
 loop-again : tie.Need-loop-again Inv-loop μ-loop
 loop-again c =

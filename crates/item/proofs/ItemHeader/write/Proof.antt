@@ -25,7 +25,7 @@ slice-aggregate-write c =
     let encoded = c .before .before .before .encoded in
     let header-size = c .before .before .header-size in
     let e = rw (sym (header-size .ensures)) at (encoded .ensures) in
-    sym (ap length e ∙ length-encode (args .g) (pre .good .low) _ _ ∙ sym (header-size .ensures))
+    sym (ap length e ∙ length-encode (args .g) (pre .good .sized .low) _ _ ∙ sym (header-size .ensures))
 
 write-requires : tie.Need-write-requires
 write-requires c κs =
@@ -35,7 +35,7 @@ write-requires c κs =
     let pre-top = c .before .before .before .before .before .pre .top in
     let encoded-ensures = c .before .before .before .encoded .ensures in
     let e = rw (sym (c .before .before .header-size .ensures)) at encoded-ensures in
-    let u = encode-whole (a .g) (pre-good .low) (a .self .crc) (a .self .length) in
+    let u = encode-whole (a .g) (pre-good .sized .low) (a .self .crc) (a .self .length) in
     (rw e (pre-good, omega (arith, pre-fits), omega (arith, pre-top)))
 
 same-length : tie.Need-same-length
