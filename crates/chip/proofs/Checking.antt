@@ -44,5 +44,5 @@ pub accepted-within : (n : ℕ) (s : Shape) (g : Geometry) → check n s ≡ Acc
 accepted-within n s g e top = let F = accepted-from n s g e in laid-within (F .laid) (omega (arith, F .ends-at))
 
 -- what the check's contract asks of an answer
-pub checks : (n : ℕ) (s : Shape) (r : Checked) → s .end < addressLimit → r ≡ check n s → Checks n s r
-checks n s r top e = record { answer = e; within = λ g f. accepted-within n s g (sym e ∙ f) top }
+pub check-promised : (n : ℕ) (s : Shape) (r : Checked) → s .end < addressLimit → r ≡ check n s → Checks n s r
+check-promised n s r top e = record { answer = e; within = λ g f. accepted-within n s g (sym e ∙ f) top }

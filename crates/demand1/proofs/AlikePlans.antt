@@ -16,7 +16,7 @@ use Rattle.demand1.proofs.Lists.{each-append}
 use Rattle.demand1.proofs.EachEvent.{Tried, Any}
 use Rattle.demand1.proofs.Pages.{state-same, walk-same, from-in, all-in}
 use Rattle.demand1.proofs.Lying.{Alike, alike-after, alike-page}
-use Rattle.demand1.proofs.Searches.{FoundIn, first-in, youngest-in, repair-lies}
+use Rattle.demand1.proofs.Searches.{PageFoundIn, first-in, youngest-in, repair-lies}
 
 pub record Both (g : Geometry) {A : Type 0} (Q : A → Type 0) (p q : Plan A) : Type 0 where
   pub one : p ≡ q
@@ -69,7 +69,7 @@ module _ {g : Geometry} {n : ℕ} (S : Laid g n) where
     repairs-same [] h = refl
     repairs-same (p ∷ ps) h = rw (states p (h .0), repairs-same ps (h .1))
 
-    open-same : (x : Found) → FoundIn g x → openFrom g im x ≡ openFrom g jm x
+    open-same : (x : Found) → PageFoundIn g x → openFrom g im x ≡ openFrom g jm x
     open-same failed h = refl
     open-same (found c) h = ap (λ (x : Found). foundOr x (fails tt)) (firsts Open (from g c) (from-in g c h))
     open-same missing h = refl

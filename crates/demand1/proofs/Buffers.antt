@@ -16,7 +16,7 @@ use Rattle.paper.specs.Calls.{planOf}
 use Rattle.laws.proofs.Accepted.{accepted-from}
 use Rattle.laws.proofs.Rounding.{round-up-fits, round-down-le, round-down-gt}
 use Rattle.demand1.specs.Rows.{Way, Seen}
-use Rattle.demand1.specs.Buffers.{Copies, OfBuffer, NoLogicBug}
+use Rattle.demand1.specs.Buffers.{CopiesAtMost, OfBuffer, NoLogicBug}
 use Rattle.demand1.proofs.Lists.{each-before}
 use Rattle.demand1.proofs.Checks.{of-shape}
 use Rattle.demand1.proofs.PushDoes.{push-does}
@@ -42,11 +42,11 @@ pub of-buffer : OfBuffer
 unfolding planOf bufferAfter
 of-buffer = record {
   push-keeps = λ g im slip buf over. tail-stays g im buf (push g im slip over .events) 0
-      (push-does {P = Copies 0} (λ a word. tt) (λ p. tt) g over im slip .each) (omega arith) .1;
+      (push-does {P = CopiesAtMost 0} (λ a word. tt) (λ p. tt) g over im slip .each) (omega arith) .1;
   shape-keeps = λ s im buf c r e. ap (λ (es : List Event). bufferAfter (geometryOf s) es im buf) (of-shape .unchanged s im c r e);
   peek-fits = λ g im n. peek-does g n im .each;
   pop-fits = λ g im n. pop-does g n im .each;
-  cut-fits = λ k m es. each-before (Copies m) k es;
+  cut-fits = λ k m es. each-before (CopiesAtMost m) k es;
   tail-stays = tail-stays;
   peek-shows = peek-shows;
   pop-shows = pop-shows;

@@ -24,7 +24,7 @@ look-room g d e = look-item g d e .room
 -- ---- a walk over a part of the image
 
 -- a header's length is no more than rounded, its item is inside the image, and its payload stands there
-pub record Whole (g : Geometry) (im : List ℕ) (h : Head) : Type 0 where
+pub record Intact (g : Geometry) (im : List ℕ) (h : Head) : Type 0 where
   pub rounds : h .len ≤ roundUp (g .word) (h .len)
   pub inside : h .place + (headerSize g + roundUp (g .word) (h .len)) ≤ length im
   pub stands : part (h .place + headerSize g) (h .len) im ≡ h .body
@@ -41,14 +41,14 @@ part-tail a (suc m) b bs im e =
     shift (x ∷ l) = refl
 
 module _ (g : Geometry) (im : List ℕ) where
-  walk-whole : (k a m : ℕ) (d : List ℕ) → d ≡ part a m im → Each (Whole g im) (walk g k a d .heads)
+  walk-whole : (k a m : ℕ) (d : List ℕ) → d ≡ part a m im → Each (Intact g im) (walk g k a d .heads)
   unfolding walk onward
   walk-whole k a m [] e = tt
   walk-whole (suc k) a m (b ∷ bs) e = walk-whole k (suc a) (m - 1) bs (part-tail a m b bs im e)
   walk-whole zero a m (b ∷ bs) e = by (look g (b ∷ bs)) refl (λ k. walk-whole k (suc a) (m - 1) bs (part-tail a m b bs im e))
     where
-      by : (x : Look) → look g (b ∷ bs) ≡ x → ((k : ℕ) → Each (Whole g im) (walk g k (suc a) bs .heads))
-          → Each (Whole g im) (onward g a (b ∷ bs) x (λ i. walk g (i - 1) (suc a) bs) .heads)
+      by : (x : Look) → look g (b ∷ bs) ≡ x → ((k : ℕ) → Each (Intact g im) (walk g k (suc a) bs .heads))
+          → Each (Intact g im) (onward g a (b ∷ bs) x (λ i. walk g (i - 1) (suc a) bs) .heads)
       by stop q f = tt
       by bad q f = f (g .word - 1)
       by (item c n body) q f =
@@ -63,6 +63,6 @@ module _ (g : Geometry) (im : List ℕ) where
             f (headerSize g + roundUp (g .word) n - 1),
           )
 
-  pub walk-on-whole : (a : ℕ) → Each (Whole g im) (walkOn g im a .heads)
+  pub walk-on-whole : (a : ℕ) → Each (Intact g im) (walkOn g im a .heads)
   unfolding walkOn
   walk-on-whole a = let m : ℕ = dataEnd g (pageOf g a) - a in walk-whole 0 a m (part a m im) refl

@@ -18,13 +18,13 @@ use Rattle.demand1.specs.Range.{Each}
 
 -- ---- where they lie
 
-pub round-up-whole : (w n : ℕ) → w ∣ roundUp w n
+pub round-up-divides : (w n : ℕ) → w ∣ roundUp w n
 unfolding roundUp
-round-up-whole w n = dvd-mul-left w _
+round-up-divides w n = dvd-mul-left w _
 
 pub header-whole : (g : Geometry) → g .word ∣ headerSize g
 unfolding headerSize
-header-whole g = round-up-whole (g .word) 8
+header-whole g = round-up-divides (g .word) 8
 
 -- a page: its first word, its data, its last word
 pub record Layout (g : Geometry) (p : ℕ) : Type 0 where
@@ -74,7 +74,7 @@ module _ {g : Geometry} {n : ℕ} (S : Laid g n) where
 
   -- a page's data begin with one
   pub start-word : (p : ℕ) → p < g .pages → ReadableWord g (dataStart g p)
-  start-word p h = let L = layout S p in record { readable = start-readable g inner (S .low) p h; aligned = L .data-whole }
+  start-word p h = let L = layout S p in record { readable = start-readable g inner (S .sized .low) p h; aligned = L .data-whole }
 
 -- ---- what their bytes decide
 

@@ -23,7 +23,7 @@ use Rattle.demand1.specs.Range.{Lies, Each}
 use Rattle.demand1.proofs.Lists.{each-append}
 use Rattle.demand1.proofs.Pages.{layout}
 use Rattle.laws.proofs.Headers.{header-behind}
-use Rattle.demand1.proofs.Walks.{Room, spot-room, page-room}
+use Rattle.demand1.proofs.Walks.{ItemInRange, spot-room, page-room}
 use Rattle.demand1.proofs.Lying.{Alike}
 use Rattle.demand1.proofs.EachEvent.{Tried, Any}
 use Rattle.demand1.proofs.Searches.{youngest-in}
@@ -33,7 +33,7 @@ use Rattle.demand1.proofs.Writes.{start-lies, end-lies, item-lies}
 -- a spot has room for an item of m bytes
 abbrev SpotFits : Geometry → ℕ → Spot → Type 0
 SpotFits g m full = Unit {0}
-SpotFits g m (at a) = Room g a m
+SpotFits g m (at a) = ItemInRange g a m
 
 abbrev SpotFine : Geometry → ℕ → Try Unit Spot → Type 0
 SpotFine g m = Tried Any (SpotFits g m)

@@ -15,9 +15,9 @@ use Rattle.paper.specs.Pages.{state, same, next, oldest}
 use Rattle.paper.specs.Refusals.{Answer, shown}
 use Rattle.paper.specs.Search.{Met, passed, long, met, itemEnd, readHeads, Stand, fromAddress, afterPage, Outcome, nothing, short, this, spoilt, Ended, onMet, readPage, leavePage, nextItem, nextStep, startStep, outcomeOf, searchOn, search, shownBy, popped, peek, pop}
 use Rattle.demand1.specs.Range.{Each}
-use Rattle.demand1.specs.Buffers.{Copies, ReadOf}
+use Rattle.demand1.specs.Buffers.{CopiesAtMost, ReadOf}
 use Rattle.demand1.proofs.Lists.{each-weaker, each-any, never}
-use Rattle.demand1.proofs.Items.{Whole, walk-on-whole}
+use Rattle.demand1.proofs.Items.{Intact, walk-on-whole}
 use Rattle.demand1.proofs.EachEvent.{Tried, Any, left-does, writes-store, Does, does-cond, does-bind, does-steps}
 
 -- a header that was met is one of those read, live, and the buffer takes it
@@ -33,7 +33,7 @@ OutFits n (this h) = h .len ≤ n
 OutFits n spoilt = Unit {0}
 
 module _ (g : Geometry) (n : ℕ) where
-  heads-do : (Q : Head → Type 0) (a : ℕ) (hs : List Head) → Each Q hs → (im : List ℕ) → Does (Copies n) (MetOf g n Q) (readHeads g n a hs im)
+  heads-do : (Q : Head → Type 0) (a : ℕ) (hs : List Head) → Each Q hs → (im : List ℕ) → Does (CopiesAtMost n) (MetOf g n Q) (readHeads g n a hs im)
   unfolding readHeads
   heads-do Q a [] e im = record { each = tt; answers = tt }
   heads-do Q a (h ∷ hs) e im =
@@ -73,18 +73,18 @@ module _ (g : Geometry) (n : ℕ) where
   abbrev NextFits : Try Stand Ended → Type 0
   NextFits = Tried Any EndFits
 
-  next-does : (old : ℕ) (clears : Bool) (k : ℕ) (s : Stand) (im : List ℕ) → Does (Copies n) NextFits (nextItem g n old clears k s im)
+  next-does : (old : ℕ) (clears : Bool) (k : ℕ) (s : Stand) (im : List ℕ) → Does (CopiesAtMost n) NextFits (nextItem g n old clears k s im)
   unfolding nextItem readPage onMet leavePage
   next-does old clears zero s im = record { each = tt; answers = tt }
   next-does old clears (suc k) (fromAddress a) im =
-      does-bind g (MetOf g n (Whole g im)) im (onMet g (pageOf g a) (nextItem g n old clears k s))
-      (heads-do (Whole g im) a (walkOn g im a .heads) (walk-on-whole g im a) im) (on (next-does old clears k s))
+      does-bind g (MetOf g n (Intact g im)) im (onMet g (pageOf g a) (nextItem g n old clears k s))
+      (heads-do (Intact g im) a (walkOn g im a .heads) (walk-on-whole g im a) im) (on (next-does old clears k s))
     where
       s : Stand
       s = afterPage (pageOf g a)
 
-      on : ((im : List ℕ) → Does (Copies n) NextFits (nextItem g n old clears k s im))
-          → (m : Met) → MetOf g n (Whole g im) m → (im : List ℕ) → Does (Copies n) NextFits (onMet g (pageOf g a) (nextItem g n old clears k s) m im)
+      on : ((im : List ℕ) → Does (CopiesAtMost n) NextFits (nextItem g n old clears k s im))
+          → (m : Met) → MetOf g n (Intact g im) m → (im : List ℕ) → Does (CopiesAtMost n) NextFits (onMet g (pageOf g a) (nextItem g n old clears k s) m im)
       on f passed v im = f im
       on f (long x j) v im = record { each = tt; answers = tt }
       on f (met h) v im = record { each = tt; answers = omega (arith, v .0, v .2) }
@@ -93,11 +93,11 @@ module _ (g : Geometry) (n : ℕ) where
       does-cond (same (state g im (next g p)) Corrupted) (λ t. record { each = tt; answers = tt })
       (λ t. does-cond (same (state g im (next g p)) Open || eqb (next g p) old) (λ t. record { each = tt; answers = tt })
       (λ t. does-bind g {A = Unit {0}} Any im (λ u. nextItem g n old clears k s) (record {
-        each = left-does g (Copies n) clears p (λ t. tt);
+        each = left-does g (CopiesAtMost n) clears p (λ t. tt);
         answers = tt;
       }) (λ u v. next-does old clears k s)))
 
-  search-does : (im : List ℕ) → Does (Copies n) (OutFits n) (search g im n)
+  search-does : (im : List ℕ) → Does (CopiesAtMost n) (OutFits n) (search g im n)
   unfolding search startStep searchOn nextStep
   search-does im =
       does-bind g (Tried Any Any) im (searchOn g n)
@@ -107,11 +107,11 @@ module _ (g : Geometry) (n : ℕ) where
       any (fails u) = tt
       any (gives p) = tt
 
-      end : (t : Try Stand Ended) → NextFits t → (im : List ℕ) → Does (Copies n) (OutFits n) (plan [] (outcomeOf t))
+      end : (t : Try Stand Ended) → NextFits t → (im : List ℕ) → Does (CopiesAtMost n) (OutFits n) (plan [] (outcomeOf t))
       end (fails s) v im = record { each = tt; answers = tt }
       end (gives o) v im = record { each = tt; answers = v }
 
-      on : (t : Try Unit ℕ) → Tried Any Any t → (im : List ℕ) → Does (Copies n) (OutFits n) (searchOn g n t im)
+      on : (t : Try Unit ℕ) → Tried Any Any t → (im : List ℕ) → Does (CopiesAtMost n) (OutFits n) (searchOn g n t im)
       on (fails u) v im = record { each = tt; answers = tt }
       on (gives old) v im =
           does-bind g NextFits im (λ t im₁. plan [] (outcomeOf t))
@@ -128,18 +128,18 @@ module _ (g : Geometry) (n : ℕ) where
   shows (this h) v k e = let z : h .len ≡ k = cc in omega arith
   shows spoilt v k e = never (cc)
 
-  pub peek-does : (im : List ℕ) → Does (Copies n) Shows (peek g im n)
+  pub peek-does : (im : List ℕ) → Does (CopiesAtMost n) Shows (peek g im n)
   unfolding peek
   peek-does im = does-bind g (OutFits n) im (λ o im₁. plan [] (shownBy o)) (search-does im) (λ o v im. record { each = tt; answers = shows o v })
 
-  pub pop-does : (im : List ℕ) → Does (Copies n) Shows (pop g im n)
+  pub pop-does : (im : List ℕ) → Does (CopiesAtMost n) Shows (pop g im n)
   unfolding pop
   pop-does im = does-bind g (OutFits n) im (λ o im₁. plan (popped g o) (shownBy o)) (search-does im) (λ o v im. record { each = by o; answers = shows o v })
     where
-      by : (o : Outcome) → Each (Copies n) (popped g o)
+      by : (o : Outcome) → Each (CopiesAtMost n) (popped g o)
       by nothing = tt
       by (short k) = tt
-      by (this h) = writes-store g (Copies n) (λ a word. tt) (h .place) (encode g 0 (h .len))
+      by (this h) = writes-store g (CopiesAtMost n) (λ a word. tt) (h .place) (encode g 0 (h .len))
       by spoilt = tt
 
   pub met-live : (a : ℕ) (hs : List Head) (im : List ℕ) (h : Head) → readHeads g n a hs im .answer ≡ met h → live h ≡ true

@@ -11,28 +11,28 @@ use Rattle.demand1.specs.Range.{Lies, Each}
 use Rattle.demand1.proofs.EachEvent.{Tried, Any, repair-does}
 use Rattle.demand1.proofs.Pages.{from-in, all-in}
 
-abbrev pub FoundIn : Geometry → Found → Type 0
-FoundIn g failed = Unit {0}
-FoundIn g (found p) = p < g .pages
-FoundIn g missing = Unit {0}
+abbrev pub PageFoundIn : Geometry → Found → Type 0
+PageFoundIn g failed = Unit {0}
+PageFoundIn g (found p) = p < g .pages
+PageFoundIn g missing = Unit {0}
 
 module _ (g : Geometry) (im : List ℕ) where
-  pub first-in : (want : PageState) (ps : List ℕ) → Each (λ p. p < g .pages) ps → FoundIn g (first g im want ps)
+  pub first-in : (want : PageState) (ps : List ℕ) → Each (λ p. p < g .pages) ps → PageFoundIn g (first g im want ps)
   unfolding first
   first-in want [] h = tt
   first-in want (p ∷ ps) h = by (same (state g im p) Corrupted) (same (state g im p) want) (first-in want ps (h .1))
     where
-      by : (s t : Bool) → FoundIn g (first g im want ps) → FoundIn g (cond s failed (cond t (found p) (first g im want ps)))
+      by : (s t : Bool) → PageFoundIn g (first g im want ps) → PageFoundIn g (cond s failed (cond t (found p) (first g im want ps)))
       by true t f = tt
       by false true f = h .0
       by false false f = f
 
-  or-in : (x : Found) (t : Try Unit ℕ) → FoundIn g x → Tried Any (λ p. p < g .pages) t → Tried Any (λ p. p < g .pages) (foundOr x t)
+  or-in : (x : Found) (t : Try Unit ℕ) → PageFoundIn g x → Tried Any (λ p. p < g .pages) t → Tried Any (λ p. p < g .pages) (foundOr x t)
   or-in failed t f h = tt
   or-in (found p) t f h = f
   or-in missing t f h = h
 
-  open-in : (x : Found) → 0 < g .pages → FoundIn g x → Tried Any (λ p. p < g .pages) (openFrom g im x)
+  open-in : (x : Found) → 0 < g .pages → PageFoundIn g x → Tried Any (λ p. p < g .pages) (openFrom g im x)
   open-in failed s h = tt
   open-in (found c) s h = or-in (first g im Open (from g c)) (fails tt) (first-in Open (from g c) (from-in g c h)) tt
   open-in missing s h = s

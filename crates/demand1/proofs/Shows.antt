@@ -17,9 +17,9 @@ use Rattle.paper.specs.Steps.{retry, withRepair}
 use Rattle.paper.specs.Search.{Met, passed, long, met, itemEnd, readHeads, Stand, fromAddress, afterPage, nothing, this, Ended, endsAt, onMet, readPage, leavePage, nextItem, nextStep, startStep, outcomeOf, searchOn, search, popped, peek, pop}
 use Rattle.laws.proofs.Parts.{length-part}
 use Rattle.demand1.specs.Range.{Each}
-use Rattle.demand1.specs.Buffers.{Copies}
+use Rattle.demand1.specs.Buffers.{CopiesAtMost}
 use Rattle.demand1.proofs.Lists.{each-append, never}
-use Rattle.demand1.proofs.Items.{Whole, walk-on-whole}
+use Rattle.demand1.proofs.Items.{Intact, walk-on-whole}
 use Rattle.demand1.proofs.EachEvent.{writes-store}
 use Rattle.demand1.proofs.Tails.{tail-stays}
 
@@ -27,7 +27,8 @@ use Rattle.demand1.proofs.Tails.{tail-stays}
 
 -- events from the image im on: the last one that copies takes the payload of h, as it then stands
 pub data Lasts (g : Geometry) (h : Head) : List ℕ → List Event → Type 0 where
-  last : {im : List ℕ} {es : List Event} → Whole g im h → Each (Copies 0) es → Lasts g h im (copy (h .place + headerSize g) (roundUp (g .word) (h .len)) ∷ es)
+  last : {im : List ℕ} {es : List Event} → Intact g im h → Each (CopiesAtMost 0) es
+      → Lasts g h im (copy (h .place + headerSize g) (roundUp (g .word) (h .len)) ∷ es)
   later : {im : List ℕ} (e : Event) {es : List Event} → Lasts g h (imageBy g e im) es → Lasts g h im (e ∷ es)
 
 -- what comes before has no say, and what comes after copies nothing
@@ -36,12 +37,14 @@ unfolding imageAfter
 lasts-behind [] es im l = l
 lasts-behind {g} (f ∷ fs) es im l = later f (lasts-behind fs es (imageBy g f im) l)
 
-lasts-before : {g : Geometry} {h : Head} {im : List ℕ} {es : List Event} (fs : List Event) → Each (Copies 0) fs → Lasts g h im es → Lasts g h im (es ++ fs)
-lasts-before fs c (last {es = es} w d) = last w (each-append (Copies 0) es fs d c)
+lasts-before : {g : Geometry} {h : Head} {im : List ℕ} {es : List Event} (fs : List Event) → Each (CopiesAtMost 0) fs → Lasts g h im es
+    → Lasts g h im (es ++ fs)
+lasts-before fs c (last {es = es} w d) = last w (each-append (CopiesAtMost 0) es fs d c)
 lasts-before fs c (later e l) = later e (lasts-before fs c l)
 
 -- b is the buffer's size
-pub lasts-front : {g : Geometry} {h : Head} {im : List ℕ} {es : List Event} (b : ℕ) → Lasts g h im es → Each (Copies b) es → (buf : List ℕ) → b ≤ length buf
+pub lasts-front : {g : Geometry} {h : Head} {im : List ℕ} {es : List Event} (b : ℕ) → Lasts g h im es → Each (CopiesAtMost b) es
+    → (buf : List ℕ) → b ≤ length buf
     → take (h .len) (bufferAfter g es im buf) ≡ h .body
 unfolding bufferAfter bufferBy put
 lasts-front {g} {h} {im} b (last {es = es} w d) c buf l =
@@ -57,7 +60,7 @@ lasts-front {g} {h} {im} b (later e {es} x) c buf l =
 -- ---- reading
 
 module _ (g : Geometry) (b : ℕ) where
-  heads-last : (a : ℕ) (hs : List Head) (im : List ℕ) → Each (Whole g im) hs → (h : Head) → readHeads g b a hs im .answer ≡ met h
+  heads-last : (a : ℕ) (hs : List Head) (im : List ℕ) → Each (Intact g im) hs → (h : Head) → readHeads g b a hs im .answer ≡ met h
       → Lasts g h im (readHeads g b a hs im .events)
   unfolding readHeads bind imageAfter imageBy
   heads-last a [] im w h e = never (cc)
@@ -166,4 +169,5 @@ module _ (g : Geometry) (b : ℕ) where
 
   pub pop-last : (im : List ℕ) (h : Head) → search g im b .answer ≡ this h → Lasts g h im (pop g im b .events)
   unfolding pop bind
-  pop-last im h e = rw e (lasts-before (popped g (this h)) (writes-store g (Copies 0) (λ a word. tt) (h .place) (encode g 0 (h .len))) (search-last im h e))
+  pop-last im h e = rw e (lasts-before (popped g (this h)) (writes-store g (CopiesAtMost 0) (λ a word. tt) (h .place) (encode g 0 (h .len)))
+      (search-last im h e))

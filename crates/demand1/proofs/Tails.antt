@@ -8,9 +8,9 @@ use Rattle.paper.specs.declared.Geometry.{Geometry}
 use Rattle.paper.specs.Chip.{part, Event, store, erase, copy, imageBy, bufferBy, bufferAfter}
 use Rattle.laws.proofs.Puts.{length-put, drop-after}
 use Rattle.demand1.specs.Range.{Each}
-use Rattle.demand1.specs.Buffers.{Copies}
+use Rattle.demand1.specs.Buffers.{CopiesAtMost}
 
-pub tail-stays : (g : Geometry) (im buf : List ℕ) (es : List Event) (m : ℕ) → Each (Copies m) es → m ≤ length buf
+pub tail-stays : (g : Geometry) (im buf : List ℕ) (es : List Event) (m : ℕ) → Each (CopiesAtMost m) es → m ≤ length buf
     → (length (bufferAfter g es im buf) ≡ length buf) × (drop m (bufferAfter g es im buf) ≡ drop m buf)
 unfolding bufferAfter bufferBy
 tail-stays g im buf [] m h l = (refl, refl)

@@ -19,7 +19,7 @@ use Rattle.laws.proofs.Headers.{header-ge, header-behind}
 use Rattle.demand1.specs.Range.{Each}
 use Rattle.demand1.proofs.Lists.{each-weaker}
 use Rattle.demand1.proofs.Items.{look-room}
-use Rattle.demand1.proofs.Pages.{layout, ReadableWord, page-in-range, page-low, round-up-whole, header-whole}
+use Rattle.demand1.proofs.Pages.{layout, ReadableWord, page-in-range, page-low, round-up-divides, header-whole}
 
 -- ---- a walk over data from lo up to hi
 
@@ -61,7 +61,7 @@ module _ (g : Geometry) (low : 0 < g .word) (lo hi : ℕ) (whole : g .word ∣ h
           let room = look-room g (b ∷ bs) q in
           let size : ℕ = headerSize g + roundUp (g .word) n in
           let some : 0 < size = omega (arith, header-ge g low) in
-          let w = f (size - 1) (further size some (dvd-add (g .word) (header-whole g) (round-up-whole (g .word) n))) in
+          let w = f (size - 1) (further size some (dvd-add (g .word) (header-whole g) (round-up-divides (g .word) n))) in
           record {
             heads-stand = (record { aligned = here; low = l; high = omega arith }, w .heads-stand);
             spot-aligned = w .spot-aligned;
@@ -71,14 +71,14 @@ module _ (g : Geometry) (low : 0 < g .word) (lo hi : ℕ) (whole : g .word ∣ h
 -- ---- of a page
 
 -- an item of n bytes at address a is at a whole word and inside the range
-pub record Room (g : Geometry) (a n : ℕ) : Type 0 where
+pub record ItemInRange (g : Geometry) (a n : ℕ) : Type 0 where
   pub aligned : g .word ∣ a
   pub low : g .start ≤ a
   pub high : a + (headerSize g + roundUp (g .word) n) ≤ rangeEnd g
 
 -- a header has room for its item
 abbrev pub Placed : Geometry → Head → Type 0
-Placed g h = Room g (h .place) (h .len)
+Placed g h = ItemInRange g (h .place) (h .len)
 
 module _ {g : Geometry} {n : ℕ} (S : Laid g n) (im : List ℕ) (long : length im ≡ n) (p : ℕ) (h : p < g .pages) where
   -- from address a to the end of the data
@@ -98,12 +98,12 @@ module _ {g : Geometry} {n : ℕ} (S : Laid g n) (im : List ℕ) (long : length 
       rw z (end-walked (dataStart g p) (L .data-whole) (omega arith))
 
   -- a header's room, and the spot's
-  room-in : (a m : ℕ) → g .word ∣ a → pageStart g p ≤ a → a + (headerSize g + roundUp (g .word) m) ≤ dataEnd g p → Room g a m
+  room-in : (a m : ℕ) → g .word ∣ a → pageStart g p ≤ a → a + (headerSize g + roundUp (g .word) m) ≤ dataEnd g p → ItemInRange g a m
   room-in a m v l k =
       let L = layout S p in
       record { aligned = v; low = omega arith; high = omega (arith, page-in g p h) }
 
-  pub spot-room : (m : ℕ) → serves g (pageWalk g im p .rest) m ≡ true → Room g (freeSpot g im p) m
+  pub spot-room : (m : ℕ) → serves g (pageWalk g im p .rest) m ≡ true → ItemInRange g (freeSpot g im p) m
   unfolding serves freeSpot
   spot-room m e =
       let r : ℕ = length (pageWalk g im p .rest) in
@@ -113,7 +113,7 @@ module _ {g : Geometry} {n : ℕ} (S : Laid g n) (im : List ℕ) (long : length 
       room-in (dataEnd g p - r) m (w .spot-aligned) (omega (arith, w .rest-short))
       (omega (arith, w .rest-short, header-behind g (S .sized .low) r m k, round-down-le (g .word) r))
 
-  pub page-room : (m : ℕ) → headerSize g + roundUp (g .word) m ≤ dataSize g → Room g (dataStart g p) m
+  pub page-room : (m : ℕ) → headerSize g + roundUp (g .word) m ≤ dataSize g → ItemInRange g (dataStart g p) m
   page-room m k = let L = layout S p in room-in (dataStart g p) m (L .data-whole) (omega arith) (omega arith)
 
 -- the headers from a word on

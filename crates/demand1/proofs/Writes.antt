@@ -17,7 +17,7 @@ use Rattle.demand1.specs.Range.{Lies, Each}
 use Rattle.demand1.proofs.Lists.{each-append}
 use Rattle.demand1.proofs.Pages.{layout, header-whole}
 use Rattle.laws.proofs.Headers.{encode-whole}
-use Rattle.demand1.proofs.Walks.{Room}
+use Rattle.demand1.proofs.Walks.{ItemInRange}
 
 module _ {g : Geometry} {n : ℕ} (S : Laid g n) where
   pub start-lies : (p : ℕ) → p < g .pages → Lies g (setStart g p)
@@ -47,11 +47,11 @@ module _ {g : Geometry} {n : ℕ} (S : Laid g n) where
   writes-lie a bytes v l h = words-lie (wordsFor (g .word) (length bytes)) a bytes v l h
 
   -- where an item has room
-  module _ (a m : ℕ) (R : Room g a m) where
+  module _ (a m : ℕ) (R : ItemInRange g a m) where
     pub header-lies : (c k : ℕ) → Each (Lies g) (writes g a (encode g c k))
     header-lies c k = writes-lie a (encode g c k) (R .aligned) (R .low) (omega (arith, encode-whole g (S .sized .low) c k, R .high))
 
-  pub item-lies : (a : ℕ) (slip : List ℕ) → Room g a (length slip) → Each (Lies g) (itemAt g a slip)
+  pub item-lies : (a : ℕ) (slip : List ℕ) → ItemInRange g a (length slip) → Each (Lies g) (itemAt g a slip)
   unfolding itemAt
   item-lies a slip R =
       each-append (Lies g) (writes g a (encode g (dataCrc slip) (length slip))) (writes g (a + headerSize g) slip)

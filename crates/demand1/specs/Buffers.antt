@@ -18,10 +18,10 @@ use Rattle.demand1.specs.Range.{Each}
 use Rattle.demand1.specs.Rows.{Way, Passed, TooLong, Seen}
 
 -- a copy takes at most m bytes
-abbrev pub Copies : ℕ → Event → Type 0
-Copies m (store a word) = Unit {0}
-Copies m (erase p) = Unit {0}
-Copies m (copy a n) = n ≤ m
+abbrev pub CopiesAtMost : ℕ → Event → Type 0
+CopiesAtMost m (store a word) = Unit {0}
+CopiesAtMost m (erase p) = Unit {0}
+CopiesAtMost m (copy a n) = n ≤ m
 
 -- the copies among events, in order
 unfoldable pub copiesIn : List Event → List Event
@@ -54,10 +54,10 @@ pub record OfBuffer : Type 0 where
   pub shape-keeps : (s : Shape) (im buf : List ℕ) (c : Call) (r : Refusal) → check (length im) s ≡ Refused r
       → bufferAfter (geometryOf s) (requested s im c .events) im buf ≡ buf
   -- the copies of a peek or pop fit the buffer, cut or not, and "bytes past the longest copy stay"
-  pub peek-fits : (g : Geometry) (im : List ℕ) (n : ℕ) → Each (Copies n) (peek g im n .events)
-  pub pop-fits : (g : Geometry) (im : List ℕ) (n : ℕ) → Each (Copies n) (pop g im n .events)
-  pub cut-fits : (k m : ℕ) (es : List Event) → Each (Copies m) es → Each (Copies m) (before k es)
-  pub tail-stays : (g : Geometry) (im buf : List ℕ) (es : List Event) (m : ℕ) → Each (Copies m) es → m ≤ length buf
+  pub peek-fits : (g : Geometry) (im : List ℕ) (n : ℕ) → Each (CopiesAtMost n) (peek g im n .events)
+  pub pop-fits : (g : Geometry) (im : List ℕ) (n : ℕ) → Each (CopiesAtMost n) (pop g im n .events)
+  pub cut-fits : (k m : ℕ) (es : List Event) → Each (CopiesAtMost m) es → Each (CopiesAtMost m) (before k es)
+  pub tail-stays : (g : Geometry) (im buf : List ℕ) (es : List Event) (m : ℕ) → Each (CopiesAtMost m) es → m ≤ length buf
       → (length (bufferAfter g es im buf) ≡ length buf) × (drop m (bufferAfter g es im buf) ≡ drop m buf)
   -- "A done peek or pop shows the first `length` bytes of that buffer": the payload of the item that is seen
   pub peek-shows : (g : Geometry) (im : List ℕ) (s : Shape) → check (length im) s ≡ Accepted g → (n k : ℕ) (hs : List Head) → Way g im hs

@@ -28,8 +28,8 @@ abbrev pub Agree : Shape → List ℕ → List ℕ → Type 0
 Agree s i j = (check (length i) s ≡ check (length j) s) × (part (s .start) (s .end - s .start) i ≡ part (s .start) (s .end - s .start) j)
 
 -- the image that a call leaves, whole, and with a limit of k stores; and the buffer
-abbrev pub after : Shape → List ℕ → Call → List ℕ
-after s im c = imageAfter (geometryOf s) (requested s im c .events) im
+abbrev pub imageLeft : Shape → List ℕ → Call → List ℕ
+imageLeft s im c = imageAfter (geometryOf s) (requested s im c .events) im
 
 abbrev pub afterLimit : ℕ → Shape → List ℕ → Call → List ℕ
 afterLimit k s im c = imageAfter (geometryOf s) (limited k (requested s im c) .events) im
@@ -39,7 +39,7 @@ bufferLimit k s im c buf = bufferAfter (geometryOf s) (limited k (requested s im
 
 pub record InRange : Type 0 where
   pub events-lie : (g : Geometry) (im : List ℕ) (s : Shape) → check (length im) s ≡ Accepted g → (c : Call) → Each (Lies g) (planOf g im c .events)
-  pub outside-whole : (s : Shape) (im : List ℕ) (c : Call) → Outside s im (after s im c)
+  pub outside-whole : (s : Shape) (im : List ℕ) (c : Call) → Outside s im (imageLeft s im c)
   pub outside-limited : (k : ℕ) (s : Shape) (im : List ℕ) (c : Call) → Outside s im (afterLimit k s im c)
   -- ".. and have no say": on images that agree on the range a call has the same events and answer, leaves images that agree, and the same
   -- buffer; with a limit from the number of its stores on it is whole

@@ -14,11 +14,11 @@ use Rattle.paper.specs.Ways.{Each}
 use Rattle.laws.proofs.Events.{image-append, buffer-append, IsCopy}
 use Rattle.demand3.proofs.Events.{Avoids}
 use Rattle.demand3.proofs.Payloads.{not-present}
-use Rattle.demand3.proofs.Steady.{Keeps, Steady, rests, goes, copied}
+use Rattle.demand3.proofs.Steady.{HoldsList, Steady, rests, goes, copied}
 
 -- ---- events that are copies
 
-pub copies-steady : {g : Geometry} {q : List (List ℕ)} {im : List ℕ} (es : List Event) → Keeps g q im → Each IsCopy es → Steady g q im es
+pub copies-steady : {g : Geometry} {q : List (List ℕ)} {im : List ℕ} (es : List Event) → HoldsList g q im → Each IsCopy es → Steady g q im es
 unfolding imageBy
 copies-steady [] K c = rests K
 copies-steady (store a bs ∷ es) K c = absurd (c .0)

@@ -16,7 +16,7 @@ use Rattle.paper.specs.Waiting.{waiting}
 use Rattle.paper.specs.Fifo.{Bytes}
 use Rattle.laws.proofs.Ring.{turn}
 use Rattle.demand3.proofs.Bytes.{bytes-append, bytes-left, bytes-right}
-use Rattle.demand3.proofs.Replaced.{NoneAccepted, after}
+use Rattle.demand3.proofs.Replaced.{NoneAccepted, afterThese}
 use Rattle.demand3.proofs.Tails.{frontOf, front-split, rewalk}
 use Rattle.demand3.proofs.Payloads.{payloads-append}
 use Rattle.demand3.proofs.Views.{View, view, stateIn, inner-length}
@@ -118,7 +118,7 @@ module _ {g : Geometry} {im : List ℕ} {S : Site g im} {jm t : List ℕ} {hs : 
       let W : Walk = walk g 0 a d in
       rewalk g (I₁ .good .sized .low) a d t (rest-blank S (R .room)) (R .long)
       (subst (λ (w : Walk). NoneAccepted (W .refused) (w .heads)) (walk-this C) (R .unmet))
-      ∙ ap (after (W .heads) (W .refused)) (ap (λ (x : ℕ). walk g 0 x t) (sym (spot-at S)) ∙ R .scan)
+      ∙ ap (afterThese (W .heads) (W .refused)) (ap (λ (x : ℕ). walk g 0 x t) (sym (spot-at S)) ∙ R .scan)
 
   pub grow-walk : pageWalk g jm (current S) ≡ new
   grow-walk = walk-this C ∙ new-walk

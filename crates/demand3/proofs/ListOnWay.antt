@@ -10,12 +10,12 @@ use Rattle.paper.specs.Pages.{oldest}
 use Rattle.paper.specs.Waiting.{waiting}
 use Rattle.demand3.proofs.Events.{Avoids}
 use Rattle.demand3.proofs.Listed.{presentIn}
-use Rattle.demand3.proofs.Steady.{Keeps, Steady, rests, erased, steady-append, steady-after, steady-before, was-before, was-there}
+use Rattle.demand3.proofs.Steady.{HoldsList, Steady, rests, erased, steady-append, steady-after, steady-before, was-before, was-there}
 
 -- by the events es; only where overwriting is on may the list lose something, and then the oldest page is erased first
 pub data ListOnWay (g : Geometry) (im : List ℕ) (over : Bool) : List Event → Type 0 where
   stays : {es : List Event} → Steady g (waiting g im) im es → ListOnWay g im over es
-  drops : {es : List Event} {q : List (List ℕ)} {o : ℕ} → over ≡ true → Keeps g (waiting g im) im → oldest g im ≡ gives o → o < g .pages
+  drops : {es : List Event} {q : List (List ℕ)} {o : ℕ} → over ≡ true → HoldsList g (waiting g im) im → oldest g im ≡ gives o → o < g .pages
       → waiting g im ≡ presentIn g im o ++ q → Steady g q (imageBy g (erase o) im) es → ListOnWay g im over (erase o ∷ es)
 
 -- without overwriting it stays

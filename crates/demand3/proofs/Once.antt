@@ -32,7 +32,7 @@ use Rattle.demand3.proofs.Ghosts.{StayRefused}
 use Rattle.demand3.proofs.SpotReady.{SpotReady, ready-steady}
 use Rattle.demand3.proofs.SpotSearch.{Spotted, isFull, isAt, spotted-for}
 use Rattle.demand3.proofs.Popping.{zeroed}
-use Rattle.demand3.proofs.Search.{Found, Result, isNothing, isShort, isThis}
+use Rattle.demand3.proofs.Search.{FoundFirst, Result, isNothing, isShort, isThis}
 use Rattle.demand3.proofs.Push.{small-enough, plan-big, plan-full, W, words-clear, words-added, same-list, pl, at-step}
 use Rattle.demand3.proofs.PeekPop as peekpop
 use Rattle.demand3.proofs.OtherCalls.{idle, fit-plan, space-plan}
@@ -175,7 +175,7 @@ module _ {g : Geometry} {im : List ℕ} {o b : ℕ} (I : Inv g im o b) (gh : Gho
 -- ---- pop
 
 module _ {g : Geometry} {im : List ℕ} {o b : ℕ} (I : Inv g im o b) (gh : Ghost) (buf : List ℕ) (h : Head)
-    (a : peekpop.sought I buf .out ≡ this h) (X : Found g im (peekpop.sought I buf .events) h) (Fs : (k : ℕ) → Fair g im gh (pops buf) (cutAfter k)) where
+    (a : peekpop.sought I buf .out ≡ this h) (X : FoundFirst g im (peekpop.sought I buf .events) h) (Fs : (k : ℕ) → Fair g im gh (pops buf) (cutAfter k)) where
   abbrev E : List Event
   E = peekpop.sought I buf .events
 

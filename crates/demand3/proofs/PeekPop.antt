@@ -31,7 +31,7 @@ use Rattle.demand3.proofs.Invariant.{Inv}
 use Rattle.demand3.proofs.Steady.{steady-before, steady-after, was-there}
 use Rattle.demand3.proofs.Ghosts.{StayRefused, unmet}
 use Rattle.demand3.proofs.Popping.{FirstPresent, first-in, body-length, zeroed, zeroed-all, first-listed, popped-inv, popped-list, popped-heads}
-use Rattle.demand3.proofs.Search.{Found, Result, isNothing, isShort, isThis, Searched, searched}
+use Rattle.demand3.proofs.Search.{FoundFirst, Result, isNothing, isShort, isThis, Searched, searched}
 use Rattle.demand3.proofs.Step.{Traced, Step, whole-step, cut-step, early-step, steady-step}
 
 -- a list that begins with s, of which n bytes are shown
@@ -104,7 +104,7 @@ module _ {g : Geometry} {im : List ℕ} {o b : ℕ} (I : Inv g im o b) (buf : Li
   idle-plan a p q = pop-plan ∙ rw (p, q) (ap (λ (es : List Event). plan es a) (append-nil E))
 
   -- the first present item h was found
-  module _ (gh : Ghost) (h : Head) (a : sought .out ≡ this h) (X : Found g im (sought .events) h) where
+  module _ (gh : Ghost) (h : Head) (a : sought .out ≡ this h) (X : FoundFirst g im (sought .events) h) where
     abbrev F : FirstPresent g (imageAfter g (sought .events) im) h
     F = X .first
 

@@ -23,7 +23,7 @@ use Rattle.paper.specs.Search.{readHeads, onMet, readPage, nextItem, nextStep, 
 use Rattle.paper.specs.Calls.{Call, pushes, peeks, pops, fits, spaces, erasesAll, planOf}
 use Rattle.paper.specs.Waiting.{waitingOn, listOf, waiting}
 use Rattle.paper.specs.Fifo.{Power, whole, cutAfter, Counted, slipOf, eventsOf, imageNext, headerPlan, headerAt, Ghost, kept, refusals, ghostNext, NoneAgain, NoPassing, Bytes, Fair, Erased, Reached, fresh, further}
-use Rattle.demand3.specs.Premises.{Step, imageOf, ghostOf, AllFair, listsOf, strip, blankStrip, noGhost, mishaps, PremisesMet, slate, blankSlate, tornPush, SoleFull}
+use Rattle.demand3.specs.Premises.{HistoryCall, imageOf, ghostOf, AllFair, listsOf, strip, blankStrip, noGhost, mishaps, PremisesMet, slate, blankSlate, tornPush, SoleFull}
 use Rattle.demand3.proofs.Blank.{and-true}
 
 -- ---- the premises as tests, on a range of one page
@@ -76,7 +76,7 @@ fairly g im gh c w =
     counts c w && (small (slipOf c)
     && (clear (pageWalk g (imageNext g im c w) 0 .heads) (ghostNext g im gh c w .refusedBefore) && stands g im c w))
 
-allFairly : Geometry → List ℕ → Ghost → List Step → Bool
+allFairly : Geometry → List ℕ → Ghost → List HistoryCall → Bool
 allFairly g im gh [] = true
 allFairly g im gh (s ∷ ss) =
     fairly g im gh (s .call) (s .power)
@@ -168,7 +168,7 @@ fairly-holds g im gh c w one e =
     }
 
 all-fairly-holds :
-    (g : Geometry) (im : List ℕ) (gh : Ghost) (ss : List Step) → g .pages ≡ 1 → allFairly g im gh ss ≡ true → AllFair g im gh ss
+    (g : Geometry) (im : List ℕ) (gh : Ghost) (ss : List HistoryCall) → g .pages ≡ 1 → allFairly g im gh ss ≡ true → AllFair g im gh ss
 unfolding allFairly
 all-fairly-holds g im gh [] one e = tt
 all-fairly-holds g im gh (s ∷ ss) one e =
@@ -178,7 +178,8 @@ all-fairly-holds g im gh (s ∷ ss) one e =
     (fairly-holds g im gh (s .call) (s .power) one (p .0), all-fairly-holds g after gone ss one (p .1))
 
 -- a fair history leads from a reached image to one
-leads : (g : Geometry) (im : List ℕ) (gh : Ghost) (ss : List Step) → Reached g im gh → AllFair g im gh ss → Reached g (imageOf g im ss) (ghostOf g im gh ss)
+leads : (g : Geometry) (im : List ℕ) (gh : Ghost) (ss : List HistoryCall) → Reached g im gh → AllFair g im gh ss
+    → Reached g (imageOf g im ss) (ghostOf g im gh ss)
 unfolding imageOf ghostOf
 leads g im gh [] r f = r
 leads g im gh (s ∷ ss) r f =

@@ -28,15 +28,15 @@ pub record MayReplace (r t : List ℕ) : Type 0 where
   pub ff : (k : ℕ) → blank (take k t) ≡ true → blank (take k r) ≡ true
 
 -- a walk that has accepted hs and refused rs before
-abbrev pub after : List Head → List ℕ → Walk → Walk
-after hs rs w = record { heads = hs ++ w .heads; refused = rs ++ w .refused; rest = w .rest }
+abbrev pub afterThese : List Head → List ℕ → Walk → Walk
+afterThese hs rs w = record { heads = hs ++ w .heads; refused = rs ++ w .refused; rest = w .rest }
 
 -- the bytes d of a course are its front and its end r; and the front leads to whatever may stand in place of r
 pub record Front (g : Geometry) (a : ℕ) (d : List ℕ) (hs : List Head) (rs r : List ℕ) : Type 0 where
   pub front : List ℕ
   pub split : d ≡ front ++ r
   pub again : (t : List ℕ) → MayReplace r t → NoneAccepted rs (walk g 0 a (front ++ t) .heads)
-      → walk g 0 a (front ++ t) ≡ after hs rs (walk g 0 (a + length front) t)
+      → walk g 0 a (front ++ t) ≡ afterThese hs rs (walk g 0 (a + length front) t)
 
 module _ (g : Geometry) (pos : 0 < g .word) where
   -- a front behind m bytes more
@@ -62,12 +62,12 @@ module _ (g : Geometry) (pos : 0 < g .word) where
 
     -- the rest of the walk is the walk of the shorter front
     on : (t : List ℕ) → MayReplace r t → NoneAccepted rs (walk g 0 (a + m) (drop m (longer ++ t)) .heads)
-        → walk g 0 (a + m) (drop m (longer ++ t)) ≡ after hs rs (walk g 0 (a + length longer) t)
+        → walk g 0 (a + m) (drop m (longer ++ t)) ≡ afterThese hs rs (walk g 0 (a + length longer) t)
     unfolding longer
     on t f u =
         let z : a + m + length (F .front) ≡ a + length (take m d ++ F .front) = omega (arith, length-append (take m d) (F .front), length-take-le m d h) in
         let e = longer-drop t in
-        rw e (F .again t f (rw e at u) ∙ ap (λ (x : ℕ). after hs rs (walk g 0 x t)) z)
+        rw e (F .again t f (rw e at u) ∙ ap (λ (x : ℕ). afterThese hs rs (walk g 0 x t)) z)
 
   -- it was refused, and is not accepted now
   past-again : (a : ℕ) (e : List ℕ) (rs : List ℕ) (w : Walk) → (look g e ≡ stop → ⊥) → NoneAccepted (a ∷ rs) (walk g 0 a e .heads)
@@ -106,7 +106,7 @@ module _ (g : Geometry) (pos : 0 < g .word) where
       record {
         front = l;
         split = longer-split a m d h F;
-        again = λ t f u. past-again a (l ++ t) rs (after hs rs (walk g 0 (a + length l) t))
+        again = λ t f u. past-again a (l ++ t) rs (afterThese hs rs (walk g 0 (a + length l) t))
             (used-looks g (l ++ t) (omega (arith, longer-length a m d h F t f, B .room)) (blank-front (headerSize g) l r t (f .ff) used)) u (on a m d h F t f);
       }
   front-of {a} {d} {rs = rs} {r = r} (over {n = n} {hs = hs} e w) =
@@ -117,6 +117,6 @@ module _ (g : Geometry) (pos : 0 < g .word) where
       record {
         front = l;
         split = longer-split a m d h F;
-        again = λ t f u. over-again a (l ++ t) rs (after hs rs (walk g 0 (a + length l) t))
+        again = λ t f u. over-again a (l ++ t) rs (afterThese hs rs (walk g 0 (a + length l) t))
             (look-same g pos d (l ++ t) (longer-length a m d h F t f) (sym (longer-take a m d h F t)) e) u (on a m d h F t f);
       }

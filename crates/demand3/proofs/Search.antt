@@ -25,13 +25,13 @@ use Rattle.demand3.proofs.Listed.{presentIn, run}
 use Rattle.demand3.proofs.Changed.{walk-other, erase-changed, erased-walk}
 use Rattle.demand3.proofs.Invariant.{Inv, listed}
 use Rattle.demand3.proofs.Erasing.{erase-inv, erase-list}
-use Rattle.demand3.proofs.Steady.{Keeps, Steady, rests, goes, erased, steady-append}
+use Rattle.demand3.proofs.Steady.{HoldsList, Steady, rests, goes, erased, steady-append}
 use Rattle.demand3.proofs.Copies.{copies-steady, copies-avoid, image-on, buffer-on, last-copy, reads, HeadsRead, allPassed, tooSmall, gotIt, heads-read}
 use Rattle.demand3.proofs.NextPage.{endsBefore, Roomy, Ahead, stops, leads, Behind, ahead, leave-stop, leave-on}
 use Rattle.demand3.proofs.Popping.{FirstPresent, first-in, not-empty, body-at, body-length}
 
 -- the events es have come from the image jm to the first present item h, and shown it
-pub record Found (g : Geometry) (jm : List ℕ) (es : List Event) (h : Head) : Type 0 where
+pub record FoundFirst (g : Geometry) (jm : List ℕ) (es : List Event) (h : Head) : Type 0 where
   pub first : FirstPresent g (imageAfter g es jm) h
   pub shown : (buf : List ℕ) → take (h .len) (bufferAfter g es jm buf) ≡ h .body
   pub unerased : Avoids (first .old) es
@@ -49,7 +49,7 @@ pub record Rested (g : Geometry) (jm im : List ℕ) : Type 0 where
 pub data Result (g : Geometry) (q : List (List ℕ)) (jm : List ℕ) (n : ℕ) (es : List Event) (out : Outcome) : Type 0 where
   isNothing : out ≡ nothing → q ≡ [] → Rested g jm (imageAfter g es jm) → Result g q jm n es out
   isShort : (k : ℕ) → out ≡ short k → Result g q jm n es out
-  isThis : (h : Head) → out ≡ this h → Found g jm es h → Result g q jm n es out
+  isThis : (h : Head) → out ≡ this h → FoundFirst g jm es h → Result g q jm n es out
 
 -- the search from page p's first item on
 abbrev fromPage : Geometry → ℕ → ℕ → ℕ → ℕ → List ℕ → Plan (Try Stand Ended)
@@ -77,7 +77,7 @@ module _ {g : Geometry} {jm : List ℕ} {o b : ℕ} (I : Inv g jm o b) {old : �
         ≡ bind g jm (readHeads g n (dataStart g o) (pageWalk g jm o .heads) jm) (onMet g o (nextItem g n old true k (afterPage o)))
     read-here k = read-start g (omega (arith, I .good)) n old true k o jm
 
-    K : Keeps g q jm
+    K : HoldsList g q jm
     K = record { old = o; runs = b; inv = I; list = l }
 
     same-image : imageAfter g es jm ≡ jm
@@ -127,7 +127,7 @@ module _ {g : Geometry} {jm : List ℕ} {o b : ℕ} (I : Inv g jm o b) {old : �
           is-image = image-on g es o (R .events) jm same-image
 
           -- what was found is in another page
-          found : (h : Head) → Found g km (R .events) h → Found g jm (es ++ (erase o ∷ R .events)) h
+          found : (h : Head) → FoundFirst g km (R .events) h → FoundFirst g jm (es ++ (erase o ∷ R .events)) h
           found h x =
               let p : ℕ = x .first .old in
               let ne : p ≡ o → ⊥ =

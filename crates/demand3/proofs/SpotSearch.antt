@@ -30,7 +30,7 @@ use Rattle.demand3.proofs.Changed.{state-other, erase-changed}
 use Rattle.demand3.proofs.Invariant.{Inv, current-in, open-walk}
 use Rattle.demand3.proofs.Marking.{mark-walks, close-inv, close-open, close-list}
 use Rattle.demand3.proofs.Erasing.{list-parted, erase-inv, erase-drops, erase-list, sole-inv, sole-drops, sole-list, sole-open}
-use Rattle.demand3.proofs.Steady.{Keeps, Steady, rests, goes, endMarked, erased}
+use Rattle.demand3.proofs.Steady.{HoldsList, Steady, rests, goes, endMarked, erased}
 use Rattle.demand3.proofs.ListOnWay.{ListOnWay, stays, drops}
 use Rattle.demand3.proofs.SpotPlan.{reused, reused-not, reused-free, reused-over, take-is, sole-is, open-is, partly-is, here-is, turn-is}
 use Rattle.demand3.proofs.SpotReady.{SpotReady, free-start, ready-mark}
@@ -77,7 +77,7 @@ module _ {g : Geometry} {im : List ℕ} {o b : ℕ} (I : Inv g im o b) (n : ℕ)
   nx : next g (turn g o b) ≡ turn g o (suc b)
   nx = next-turn g o b (S .old-in) (S .run-in)
 
-  K : Keeps g (waiting g im) im
+  K : HoldsList g (waiting g im) im
   K = record { old = o; runs = b; inv = I; list = refl }
 
   old : oldest g im ≡ gives o
@@ -137,7 +137,7 @@ module _ {g : Geometry} {im : List ℕ} {o b : ℕ} (I : Inv g im o b) (n : ℕ)
           J₁ : Inv g (imageBy g (setEnd g c) im) o (suc b)
           J₁ = close-inv I e h
 
-          K₁ : Keeps g (waiting g im) (imageBy g (setEnd g c) im)
+          K₁ : HoldsList g (waiting g im) (imageBy g (setEnd g c) im)
           K₁ = record { old = o; runs = suc b; inv = J₁; list = close-list I e h }
 
           again : (state g im x ≡ Closed) ⊎ (x ≡ c) → ⊥

@@ -17,7 +17,7 @@ use Rattle.demand3.proofs.Changed.{walk-other, walks-same, start-change
 use Rattle.demand3.proofs.Invariant.{Inv}
 
 -- an image with the invariant, whose list is q
-pub record Keeps (g : Geometry) (q : List (List ℕ)) (im : List ℕ) : Type 0 where
+pub record HoldsList (g : Geometry) (q : List (List ℕ)) (im : List ℕ) : Type 0 where
   pub old : ℕ
   pub runs : ℕ
   pub inv : Inv g im old runs
@@ -32,10 +32,10 @@ pub data AddsNoHead (g : Geometry) : Event → Type 0 where
 
 -- the list is q before, between and after such events
 pub data Steady (g : Geometry) (q : List (List ℕ)) : List ℕ → List Event → Type 0 where
-  rests : {im : List ℕ} → Keeps g q im → Steady g q im []
-  goes : {im : List ℕ} {e : Event} {es : List Event} → Keeps g q im → AddsNoHead g e → Steady g q (imageBy g e im) es → Steady g q im (e ∷ es)
+  rests : {im : List ℕ} → HoldsList g q im → Steady g q im []
+  goes : {im : List ℕ} {e : Event} {es : List Event} → HoldsList g q im → AddsNoHead g e → Steady g q (imageBy g e im) es → Steady g q im (e ∷ es)
 
-pub steady-after : {g : Geometry} {q : List (List ℕ)} {im : List ℕ} {es : List Event} → Steady g q im es → Keeps g q (imageAfter g es im)
+pub steady-after : {g : Geometry} {q : List (List ℕ)} {im : List ℕ} {es : List Event} → Steady g q im es → HoldsList g q (imageAfter g es im)
 unfolding imageAfter
 steady-after (rests K) = K
 steady-after (goes K A S) = steady-after S

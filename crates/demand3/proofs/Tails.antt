@@ -19,7 +19,7 @@ use Rattle.demand3.proofs.Sizes.{itemSize}
 use Rattle.demand3.proofs.Blank.{and-true, blank-take}
 use Rattle.demand3.proofs.Headers.{first-used, look-encoded}
 use Rattle.demand3.proofs.Courses.{here, past, over, course-of, course-walk}
-use Rattle.demand3.proofs.Replaced.{NoneAccepted, MayReplace, after, front-of}
+use Rattle.demand3.proofs.Replaced.{NoneAccepted, MayReplace, afterThese, front-of}
 
 -- FF may be replaced by anything as long
 blank-replaceable : (r t : List ℕ) → blank r ≡ true → length t ≡ length r → MayReplace r t
@@ -37,7 +37,7 @@ module _ (g : Geometry) (pos : 0 < g .word) where
   -- other bytes from there on, where FF was
   pub rewalk : (a : ℕ) (d t : List ℕ) → blank (walk g 0 a d .rest) ≡ true → length t ≡ length (walk g 0 a d .rest)
       → NoneAccepted (walk g 0 a d .refused) (walk g 0 a (frontOf a d ++ t) .heads)
-      → walk g 0 a (frontOf a d ++ t) ≡ after (walk g 0 a d .heads) (walk g 0 a d .refused) (walk g 0 (a + length (frontOf a d)) t)
+      → walk g 0 a (frontOf a d ++ t) ≡ afterThese (walk g 0 a d .heads) (walk g 0 a d .refused) (walk g 0 (a + length (frontOf a d)) t)
   unfolding frontOf
   rewalk a d t e l u = front-of g pos (course-of g pos a d) .again t (blank-replaceable (walk g 0 a d .rest) t e l) u
 

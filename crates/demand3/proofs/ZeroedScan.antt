@@ -16,7 +16,7 @@ use Rattle.laws.proofs.Looking.{look-item, look-bad, item-look}
 use Rattle.demand3.proofs.Sizes.{itemSize}
 use Rattle.demand3.proofs.Headers.{first-used}
 use Rattle.demand3.proofs.Courses.{Course, here, past, over, walk-step, course-of, walk-stops, course-walk}
-use Rattle.demand3.proofs.Replaced.{NoneAccepted, MayReplace, after, Front, front-of}
+use Rattle.demand3.proofs.Replaced.{NoneAccepted, MayReplace, afterThese, Front, front-of}
 
 -- a CRC of 0
 abbrev pub zeros4 : List ℕ
@@ -142,7 +142,7 @@ module _ (g : Geometry) (pos : 0 < g .word) where
         let s : put i zeros4 d ≡ F .front ++ zeroed (P .from) =
         ap₂ (λ (x : ℕ) (y : List ℕ). put x zeros4 y) li (F .split) ∙ put-at-end (F .front) zeros4 (P .from) in
         rw s (F .again (zeroed (P .from)) (zeroed-replaces (P .from) four) (less (rw s at U))
-        ∙ ap (λ (x : ℕ). after pre (P .rs₁) (walk g 0 x (zeroed (P .from)))) at ∙ ap (after pre (P .rs₁)) tail-walk
+        ∙ ap (λ (x : ℕ). afterThese pre (P .rs₁) (walk g 0 x (zeroed (P .from)))) at ∙ ap (afterThese pre (P .rs₁)) tail-walk
         ∙ ap (λ (x : List ℕ). record { heads = pre ++ (poppedHead h ∷ post); refused = x; rest = W .rest }) (sym (P .refused-are)))
       where
         less : {hs : List Head} → NoneAccepted (W .refused) hs → NoneAccepted (P .rs₁) hs

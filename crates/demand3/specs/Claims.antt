@@ -51,7 +51,7 @@ LiteralEnough = (g : Geometry) (im : List ℕ) (gh : Ghost) → NoFalse g im gh 
 abbrev pub TakesAny : Geometry → List ℕ → Type 0
 TakesAny g im = (slip : List ℕ) → tooBig g (length slip) ≡ false → planOf g im (pushes slip false) .answer ≡ done
 
-pub record Room (g : Geometry) (im : List ℕ) : Type 0 where
+pub record RoomOfPlans (g : Geometry) (im : List ℕ) : Type 0 where
   -- the room of popped pages is used again: where no header is live on the page after the current one, no push is refused for want of room
   pub again : (y : ℕ) → youngest g im ≡ gives y → anyLive (pageWalk g im (next g y) .heads) ≡ false → TakesAny g im
   -- FullStorage with an empty list ends at the next peek or pop with a buffer of a page's data: it answers empty,
@@ -65,4 +65,4 @@ pub record Room (g : Geometry) (im : List ℕ) : Type 0 where
   pub popKeeps : g .pages ≡ 1 → (b : List ℕ) → planOf g im (pops b) .answer ≡ empty → imageNext g im (pops b) whole ≡ im
 
 abbrev pub RoomAgain : Type 0
-RoomAgain = (g : Geometry) (im : List ℕ) (gh : Ghost) → Reached g im gh → Room g im
+RoomAgain = (g : Geometry) (im : List ℕ) (gh : Ghost) → Reached g im gh → RoomOfPlans g im

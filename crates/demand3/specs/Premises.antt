@@ -44,27 +44,27 @@ pub record PremisesNeeded : Type 0 where
 -- ---- a history with cuts that meets them
 
 -- a call of a history, whole or cut
-pub record Step : Type 0 where
+pub record HistoryCall : Type 0 where
   pub call : Call
   pub power : Power
 
 -- what a history leaves: the image and the ghosts
-unfoldable pub imageOf : Geometry → List ℕ → List Step → List ℕ
+unfoldable pub imageOf : Geometry → List ℕ → List HistoryCall → List ℕ
 imageOf g im [] = im
 imageOf g im (s ∷ ss) = imageOf g (imageNext g im (s .call) (s .power)) ss
 
-unfoldable pub ghostOf : Geometry → List ℕ → Ghost → List Step → Ghost
+unfoldable pub ghostOf : Geometry → List ℕ → Ghost → List HistoryCall → Ghost
 ghostOf g im gh [] = gh
 ghostOf g im gh (s ∷ ss) = ghostOf g (imageNext g im (s .call) (s .power)) (ghostNext g im gh (s .call) (s .power)) ss
 
 -- all that demand 3 assumes of a call holds of every call of a history
-abbrev pub AllFair : Geometry → List ℕ → Ghost → List Step → Type 0
+abbrev pub AllFair : Geometry → List ℕ → Ghost → List HistoryCall → Type 0
 AllFair g im gh [] = Unit {0}
 AllFair g im gh (s ∷ ss) =
     Fair g im gh (s .call) (s .power) × AllFair g (imageNext g im (s .call) (s .power)) (ghostNext g im gh (s .call) (s .power)) ss
 
 -- the list after each call
-unfoldable pub listsOf : Geometry → List ℕ → List Step → List (List (List ℕ))
+unfoldable pub listsOf : Geometry → List ℕ → List HistoryCall → List (List (List ℕ))
 listsOf g im [] = []
 listsOf g im (s ∷ ss) = let after = imageNext g im (s .call) (s .power) in waiting g after ∷ listsOf g after ss
 
@@ -80,7 +80,7 @@ noGhost = record { begun = []; refusedBefore = [] }
 
 -- a push; a push cut within its header; a push cut when its header is whole and nothing of its payload is stored; a push; a pop cut
 -- between its two stores
-unfoldable pub mishaps : List Step
+unfoldable pub mishaps : List HistoryCall
 mishaps =
     record { call = pushes (1 ∷ []) false; power = whole } ∷
     record { call = pushes [] false; power = cutAfter 1 } ∷
@@ -113,7 +113,7 @@ unfoldable pub blankSlate : List ℕ
 blankSlate = replicate 20 0xff
 
 -- a push cut when its header is whole and nothing of its payload is stored
-unfoldable pub tornPush : List Step
+unfoldable pub tornPush : List HistoryCall
 tornPush = record { call = pushes (1 ∷ 2 ∷ 3 ∷ 4 ∷ []) false; power = cutAfter 3 } ∷ []
 
 abbrev pub filledSlate : List ℕ

@@ -39,11 +39,11 @@ module _ (s : Shape) (g : Geometry) (im : List ℕ) (a : check (length im) s ≡
 
 -- ---- a history of public calls is a history of plans
 
-pub record Comes (s : Shape) (g : Geometry) (im : List ℕ) (gh : Ghost) : Type 0 where
+pub record AsPlans (s : Shape) (g : Geometry) (im : List ℕ) (gh : Ghost) : Type 0 where
   pub reached : Reached g im gh
   pub accepted : check (length im) s ≡ Accepted g
 
-pub comes : {s : Shape} {g : Geometry} {im : List ℕ} {gh : Ghost} → Played s g im gh → Comes s g im gh
+pub comes : {s : Shape} {g : Geometry} {im : List ℕ} {gh : Ghost} → Played s g im gh → AsPlans s g im gh
 comes {s} (begins a e) = record { reached = fresh s a e; accepted = a }
 comes {s} {g} (goesOn {im = im} {gh = gh} f c o e x P F h) =
     let C = comes P in
@@ -76,7 +76,7 @@ keeps : (s : Shape) (g : Geometry) (im : List ℕ) (gh : Ghost) → Played s g i
     → (o e : List ℕ) (x : Answer) → Promised s f c im o e x → Keeps g c (powerOf s im f c) im o e x
 keeps s g im gh P f c F o e x h = by (powerOf s im f c) refl (demand3 .behaves g im gh (C .reached) c (powerOf s im f c) F)
   where
-    C : Comes s g im gh
+    C : AsPlans s g im gh
     C = comes P
 
     by : (w : Power) → powerOf s im f c ≡ w → Behaves g im c w → Keeps g c w im o e x

@@ -14,17 +14,17 @@ use Rattle.paper.specs.Fifo.{whole, imageNext, bufferOf, Ghost}
 use Rattle.demand3.specs.Claims as claims
 use Rattle.demand3.proofs.RoomAgain.{room-again}
 use Rattle.demands.specs.Histories.{Lent, unlimited, Promised, powerOf}
-use Rattle.demands.specs.Demands.{TakesAny, RoomAgainOfCalls}
+use Rattle.demands.specs.Demands.{CallsTakeAny, RoomAgainOfCalls}
 use Rattle.demands.proofs.Contracts.{whole-of, accepted-as}
 use Rattle.demands.proofs.Demand1.{outside-of}
-use Rattle.demands.proofs.Demand3.{image-of, Comes, comes}
+use Rattle.demands.proofs.Demand3.{image-of, AsPlans, comes}
 
 module _ (s : Shape) (g : Geometry) (im : List ℕ) (a : check (length im) s ≡ Accepted g) where
   -- a whole call answers as its plan does
   answer-of : (c : Call) (o e : List ℕ) (x : Answer) → Promised s unlimited c im o e x → x ≡ planOf g im c .answer
   answer-of c o e x h = whole-of s im o e x unlimited c h .answer ∙ ap (λ (p : Plan Answer). p .answer) (accepted-as s im c g a)
 
-  takes-any : claims.TakesAny g im → TakesAny s g im
+  takes-any : claims.TakesAny g im → CallsTakeAny s g im
   takes-any f slip t o e x h = answer-of (pushes slip _) o e x h ∙ f slip t
 
 -- what a whole call left is accepted too
@@ -32,7 +32,7 @@ accepted-then : (s : Shape) (g : Geometry) (im : List ℕ) → check (length im)
     → Promised s unlimited c im o e x → check (length o) s ≡ Accepted g
 accepted-then s g im a c o e x h = ap (λ (n : ℕ). check n s) (outside-of s im o e x unlimited c h .size) ∙ a
 
-module _ (s : Shape) (g : Geometry) (im : List ℕ) (gh : Ghost) (C : Comes s g im gh) where
+module _ (s : Shape) (g : Geometry) (im : List ℕ) (gh : Ghost) (C : AsPlans s g im gh) where
   R : claims.Room g im
   R = room-again g im gh (C .reached)
 
@@ -52,7 +52,7 @@ module _ (s : Shape) (g : Geometry) (im : List ℕ) (gh : Ghost) (C : Comes s g 
   frees spaces l two e = absurd l
   frees erasesAll l two e = absurd l
 
-  freed : (c : Call) → Lent c → 2 ≤ g .pages → (o e : List ℕ) (x : Answer) → Promised s unlimited c im o e x → x ≡ empty → TakesAny s g o
+  freed : (c : Call) → Lent c → 2 ≤ g .pages → (o e : List ℕ) (x : Answer) → Promised s unlimited c im o e x → x ≡ empty → CallsTakeAny s g o
   unfolding powerOf
   freed c l two o e x h q =
       let i : o ≡ imageNext g im c whole = image-of s g im (C .accepted) unlimited c o e x h in

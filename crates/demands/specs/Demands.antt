@@ -58,18 +58,18 @@ pub record Demand3OfCalls : Type 0 where
 -- ---- room
 
 -- a push of any slip that is not too big is done
-abbrev pub TakesAny : Shape → Geometry → List ℕ → Type 0
-TakesAny s g im =
+abbrev pub CallsTakeAny : Shape → Geometry → List ℕ → Type 0
+CallsTakeAny s g im =
     (slip : List ℕ) → tooBig g (length slip) ≡ false → (o e : List ℕ) (x : Answer) → Promised s unlimited (pushes slip false) im o e x → x ≡ done
 
 -- of an image of a history of public calls
 pub record RoomOfCalls (s : Shape) (g : Geometry) (im : List ℕ) : Type 0 where
   -- the room of popped pages is used again
-  pub again : (y : ℕ) → youngest g im ≡ gives y → anyLive (pageWalk g im (next g y) .heads) ≡ false → TakesAny s g im
+  pub again : (y : ℕ) → youngest g im ≡ gives y → anyLive (pageWalk g im (next g y) .heads) ≡ false → CallsTakeAny s g im
   -- FullStorage with an empty list ends, on two pages or more, at the next peek or pop with a buffer of a page's data
   pub says-so : (c : Call) → Lent c → waiting g im ≡ [] → dataSize g ≤ length (bufferOf c) → (o e : List ℕ) (x : Answer)
       → Promised s unlimited c im o e x → x ≡ empty
-  pub frees : (c : Call) → Lent c → 2 ≤ g .pages → (o e : List ℕ) (x : Answer) → Promised s unlimited c im o e x → x ≡ empty → TakesAny s g o
+  pub frees : (c : Call) → Lent c → 2 ≤ g .pages → (o e : List ℕ) (x : Answer) → Promised s unlimited c im o e x → x ≡ empty → CallsTakeAny s g o
 
 abbrev pub RoomAgainOfCalls : Type 0
 RoomAgainOfCalls = (s : Shape) (g : Geometry) (im : List ℕ) (gh : Ghost) → Played s g im gh → RoomOfCalls s g im

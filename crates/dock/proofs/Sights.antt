@@ -29,7 +29,7 @@ use Rattle.item.proofs.Live.{live-yes, live-no}
 use Rattle.item.proofs.Looking.{item-in}
 use Rattle.codes.specs.Codes.{code, rowCode}
 use Rattle.codes.proofs.Distinct.{row-within}
-use Rattle.dock.specs.Sights.{outside, Free, onPage, kind, seen, sight}
+use Rattle.dock.specs.Sights.{notThere, Free, onPage, kind, seen, sight}
 
 pub free : Free
 unfolding code
@@ -46,7 +46,7 @@ module _ (s : Shape) (n p : ℕ) {k : Checked} (h : Checks n s k) (own : Geometr
   pub page-refused : (x : Refusal) → k ≡ Refused x → r ≡ rowCode (row x) → r ≡ onPage (check n s) p own
   page-refused x q e = rw (← h .answer, q) e
 
-  pub page-missing : (g : Geometry) → k ≡ Accepted g → g .pages ≤ p → r ≡ outside → r ≡ onPage (check n s) p own
+  pub page-missing : (g : Geometry) → k ≡ Accepted g → g .pages ≤ p → r ≡ notThere → r ≡ onPage (check n s) p own
   page-missing g q l e = rw (← h .answer, q, le-ltb p (g .pages) l) e
 
   pub page-there : (g : Geometry) → k ≡ Accepted g → p < g .pages → r ≡ own g → r ≡ onPage (check n s) p own
@@ -55,11 +55,11 @@ module _ (s : Shape) (n p : ℕ) {k : Checked} (h : Checks n s k) (own : Geometr
 -- ---- an address on page p
 
 module _ (g : Geometry) (im : List ℕ) (p a : ℕ) {r : ℕ} where
-  pub sight-below : a < dataStart g p → r ≡ outside → r ≡ sight g im p a
+  pub sight-below : a < dataStart g p → r ≡ notThere → r ≡ sight g im p a
   unfolding sight
   sight-below l e = rw (lt-leb (dataStart g p) a l) e
 
-  pub sight-above : dataStart g p ≤ a → dataEnd g p < a → r ≡ outside → r ≡ sight g im p a
+  pub sight-above : dataStart g p ≤ a → dataEnd g p < a → r ≡ notThere → r ≡ sight g im p a
   unfolding sight
   sight-above l m e = rw (le-leb (dataStart g p) a l, lt-leb a (dataEnd g p) m) e
 

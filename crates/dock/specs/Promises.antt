@@ -35,14 +35,14 @@ pub record CodedShown (g : Geometry) (p : Plan Answer) (i o d e : List ℕ) (r :
   pub buffer : e ≡ bufferAfter g (p .events) i d
 
 -- the call c on the shape s, whole and with the limit k
-abbrev pub Answers : Shape → Call → List ℕ → List ℕ → ℕ → Type 0
-Answers s c i o r = Coded (geometryOf s) (requested s i c) i o r
+abbrev pub Returns : Shape → Call → List ℕ → List ℕ → ℕ → Type 0
+Returns s c i o r = Coded (geometryOf s) (requested s i c) i o r
 
-abbrev pub AnswersWithin : ℕ → Shape → Call → List ℕ → List ℕ → ℕ → Type 0
-AnswersWithin k s c i o r = Coded (geometryOf s) (limited k (requested s i c)) i o r
+abbrev pub ReturnsWithin : ℕ → Shape → Call → List ℕ → List ℕ → ℕ → Type 0
+ReturnsWithin k s c i o r = Coded (geometryOf s) (limited k (requested s i c)) i o r
 
-abbrev pub Shows : Shape → Call → List ℕ → List ℕ → List ℕ → List ℕ → ℕ → Type 0
-Shows s c i o d e r = CodedShown (geometryOf s) (requested s i c) i o d e r
+abbrev pub ReturnsShown : Shape → Call → List ℕ → List ℕ → List ℕ → List ℕ → ℕ → Type 0
+ReturnsShown s c i o d e r = CodedShown (geometryOf s) (requested s i c) i o d e r
 
-abbrev pub ShowsWithin : ℕ → Shape → Call → List ℕ → List ℕ → List ℕ → List ℕ → ℕ → Type 0
-ShowsWithin k s c i o d e r = CodedShown (geometryOf s) (limited k (requested s i c)) i o d e r
+abbrev pub ReturnsShownWithin : ℕ → Shape → Call → List ℕ → List ℕ → List ℕ → List ℕ → ℕ → Type 0
+ReturnsShownWithin k s c i o d e r = CodedShown (geometryOf s) (limited k (requested s i c)) i o d e r

@@ -18,18 +18,18 @@ use Rattle.paper.specs.Refusals.{check, row}
 use Rattle.codes.specs.Codes.{code, rowCode}
 
 -- for a page or an address that is not there
-abbrev pub outside : ℕ
-outside = 255
+abbrev pub notThere : ℕ
+notThere = 255
 
 -- no refusal has this number, and nothing that is there
 pub record Free : Type 0 where
-  pub refusals : (x : Refusal) → rowCode (row x) ≡ outside → ⊥
-  pub values : (v : ℕ) → code 0 v ≡ outside → ⊥
+  pub refusals : (x : Refusal) → rowCode (row x) ≡ notThere → ⊥
+  pub values : (v : ℕ) → code 0 v ≡ notThere → ⊥
 
 -- a look at page p: the shape's refusal, then that there is no such page
 abbrev pub onPage : Checked → ℕ → (Geometry → ℕ) → ℕ
 onPage (Refused r) p own = rowCode (row r)
-onPage (Accepted g) p own = cond (ltb p (g .pages)) (own g) outside
+onPage (Accepted g) p own = cond (ltb p (g .pages)) (own g) notThere
 
 unfoldable pub stateCode : Shape → List ℕ → ℕ → ℕ
 stateCode s im p = onPage (check (length im) s) p (λ g. code 0 (rank (state g im p)))
@@ -48,7 +48,7 @@ seen a (item crc len body) = kind (record { place = a; crc = crc; len = len; bod
 unfoldable pub sight : Geometry → List ℕ → ℕ → ℕ → ℕ
 sight g im p a =
     let d = part a (dataEnd g p - a) im in
-    cond (leb (dataStart g p) a && leb a (dataEnd g p)) (code 0 (seen a (look g d))) outside
+    cond (leb (dataStart g p) a && leb a (dataEnd g p)) (code 0 (seen a (look g d))) notThere
 
 unfoldable pub itemCode : Shape → List ℕ → ℕ → ℕ → ℕ
 itemCode s im p a = onPage (check (length im) s) p (λ g. sight g im p a)

@@ -12,7 +12,7 @@ ghost use Rattle.chip.specs.Within.{Within};
 ghost use Rattle.item.specs.Places.{Inside, Room};
 ghost use Rattle.item.specs.Reading.{headAt};
 ghost use Rattle.codes.specs.Codes.{codeOfCheck};
-ghost use Rattle.dock.specs.Promises.{shapeFrom, isOn, Answers, AnswersWithin, Shows, ShowsWithin};
+ghost use Rattle.dock.specs.Promises.{shapeFrom, isOn, Returns, ReturnsWithin, ReturnsShown, ReturnsShownWithin};
 ghost use Rattle.dock.specs.Sights.{stateCode, kind, seen, sight, itemCode};
 use chip::Address;
 use chip::Page;
@@ -61,7 +61,7 @@ pub extern "C" fn slipq_push(
     slip: &[u8],
     overwrite: u32,
 ) -> u64
-    ensures { λ r. ⌜ Answers (shapeFrom (now (geometry .entry))) (pushes (now (slip .entry)) (isOn overwrite)) (now (image .entry)) (now (image .exit)) r ⌝ }
+    ensures { λ r. ⌜ Returns (shapeFrom (now (geometry .entry))) (pushes (now (slip .entry)) (isOn overwrite)) (now (image .entry)) (now (image .exit)) r ⌝ }
 {
     let s = shape_of(geometry);
     codes::pushed_code(queue::push(image, s, slip, overwrite != 0))
@@ -75,7 +75,7 @@ pub extern "C" fn slipq_push_limited(
     overwrite: u32,
     limit: usize,
 ) -> u64
-    ensures { λ r. ⌜ AnswersWithin limit (shapeFrom (now (geometry .entry))) (pushes (now (slip .entry)) (isOn overwrite)) (now (image .entry)) (now (image .exit)) r ⌝ }
+    ensures { λ r. ⌜ ReturnsWithin limit (shapeFrom (now (geometry .entry))) (pushes (now (slip .entry)) (isOn overwrite)) (now (image .entry)) (now (image .exit)) r ⌝ }
 {
     let s = shape_of(geometry);
     codes::pushed_code(queue::push_limited(image, s, slip, overwrite != 0, limit))
@@ -85,7 +85,7 @@ pub extern "C" fn slipq_push_limited(
 
 #[no_mangle]
 pub extern "C" fn slipq_peek(image: &mut [u8], geometry: &[u32; 4], buffer: &mut [u8]) -> u64
-    ensures { λ r. ⌜ Shows (shapeFrom (now (geometry .entry))) (peeks (now (buffer .entry))) (now (image .entry)) (now (image .exit)) (now (buffer .entry)) (now (buffer .exit)) r ⌝ }
+    ensures { λ r. ⌜ ReturnsShown (shapeFrom (now (geometry .entry))) (peeks (now (buffer .entry))) (now (image .entry)) (now (image .exit)) (now (buffer .entry)) (now (buffer .exit)) r ⌝ }
 {
     let s = shape_of(geometry);
     codes::shown_code(queue::peek(image, buffer, s))
@@ -98,7 +98,7 @@ pub extern "C" fn slipq_peek_limited(
     buffer: &mut [u8],
     limit: usize,
 ) -> u64
-    ensures { λ r. ⌜ ShowsWithin limit (shapeFrom (now (geometry .entry))) (peeks (now (buffer .entry))) (now (image .entry)) (now (image .exit)) (now (buffer .entry)) (now (buffer .exit)) r ⌝ }
+    ensures { λ r. ⌜ ReturnsShownWithin limit (shapeFrom (now (geometry .entry))) (peeks (now (buffer .entry))) (now (image .entry)) (now (image .exit)) (now (buffer .entry)) (now (buffer .exit)) r ⌝ }
 {
     let s = shape_of(geometry);
     codes::shown_code(queue::peek_limited(image, buffer, s, limit))
@@ -108,7 +108,7 @@ pub extern "C" fn slipq_peek_limited(
 
 #[no_mangle]
 pub extern "C" fn slipq_pop(image: &mut [u8], geometry: &[u32; 4], buffer: &mut [u8]) -> u64
-    ensures { λ r. ⌜ Shows (shapeFrom (now (geometry .entry))) (pops (now (buffer .entry))) (now (image .entry)) (now (image .exit)) (now (buffer .entry)) (now (buffer .exit)) r ⌝ }
+    ensures { λ r. ⌜ ReturnsShown (shapeFrom (now (geometry .entry))) (pops (now (buffer .entry))) (now (image .entry)) (now (image .exit)) (now (buffer .entry)) (now (buffer .exit)) r ⌝ }
 {
     let s = shape_of(geometry);
     codes::shown_code(queue::pop(image, buffer, s))
@@ -121,7 +121,7 @@ pub extern "C" fn slipq_pop_limited(
     buffer: &mut [u8],
     limit: usize,
 ) -> u64
-    ensures { λ r. ⌜ ShowsWithin limit (shapeFrom (now (geometry .entry))) (pops (now (buffer .entry))) (now (image .entry)) (now (image .exit)) (now (buffer .entry)) (now (buffer .exit)) r ⌝ }
+    ensures { λ r. ⌜ ReturnsShownWithin limit (shapeFrom (now (geometry .entry))) (pops (now (buffer .entry))) (now (image .entry)) (now (image .exit)) (now (buffer .entry)) (now (buffer .exit)) r ⌝ }
 {
     let s = shape_of(geometry);
     codes::shown_code(queue::pop_limited(image, buffer, s, limit))
@@ -131,7 +131,7 @@ pub extern "C" fn slipq_pop_limited(
 
 #[no_mangle]
 pub extern "C" fn slipq_find_max_fit(image: &mut [u8], geometry: &[u32; 4]) -> u64
-    ensures { λ r. ⌜ Answers (shapeFrom (now (geometry .entry))) fits (now (image .entry)) (now (image .exit)) r ⌝ }
+    ensures { λ r. ⌜ Returns (shapeFrom (now (geometry .entry))) fits (now (image .entry)) (now (image .exit)) r ⌝ }
 {
     let s = shape_of(geometry);
     codes::fit_code(queue::find_max_fit(image, s))
@@ -143,7 +143,7 @@ pub extern "C" fn slipq_find_max_fit_limited(
     geometry: &[u32; 4],
     limit: usize,
 ) -> u64
-    ensures { λ r. ⌜ AnswersWithin limit (shapeFrom (now (geometry .entry))) fits (now (image .entry)) (now (image .exit)) r ⌝ }
+    ensures { λ r. ⌜ ReturnsWithin limit (shapeFrom (now (geometry .entry))) fits (now (image .entry)) (now (image .exit)) r ⌝ }
 {
     let s = shape_of(geometry);
     codes::fit_code(queue::find_max_fit_limited(image, s, limit))
@@ -153,7 +153,7 @@ pub extern "C" fn slipq_find_max_fit_limited(
 
 #[no_mangle]
 pub extern "C" fn slipq_space_left(image: &mut [u8], geometry: &[u32; 4]) -> u64
-    ensures { λ r. ⌜ Answers (shapeFrom (now (geometry .entry))) spaces (now (image .entry)) (now (image .exit)) r ⌝ }
+    ensures { λ r. ⌜ Returns (shapeFrom (now (geometry .entry))) spaces (now (image .entry)) (now (image .exit)) r ⌝ }
 {
     let s = shape_of(geometry);
     codes::space_code(queue::space_left(image, s))
@@ -165,7 +165,7 @@ pub extern "C" fn slipq_space_left_limited(
     geometry: &[u32; 4],
     limit: usize,
 ) -> u64
-    ensures { λ r. ⌜ AnswersWithin limit (shapeFrom (now (geometry .entry))) spaces (now (image .entry)) (now (image .exit)) r ⌝ }
+    ensures { λ r. ⌜ ReturnsWithin limit (shapeFrom (now (geometry .entry))) spaces (now (image .entry)) (now (image .exit)) r ⌝ }
 {
     let s = shape_of(geometry);
     codes::space_code(queue::space_left_limited(image, s, limit))
@@ -175,7 +175,7 @@ pub extern "C" fn slipq_space_left_limited(
 
 #[no_mangle]
 pub extern "C" fn slipq_erase_all(image: &mut [u8], geometry: &[u32; 4]) -> u64
-    ensures { λ r. ⌜ Answers (shapeFrom (now (geometry .entry))) erasesAll (now (image .entry)) (now (image .exit)) r ⌝ }
+    ensures { λ r. ⌜ Returns (shapeFrom (now (geometry .entry))) erasesAll (now (image .entry)) (now (image .exit)) r ⌝ }
 {
     let s = shape_of(geometry);
     codes::erased_code(queue::erase_all(image, s))
@@ -187,7 +187,7 @@ pub extern "C" fn slipq_erase_all_limited(
     geometry: &[u32; 4],
     limit: usize,
 ) -> u64
-    ensures { λ r. ⌜ AnswersWithin limit (shapeFrom (now (geometry .entry))) erasesAll (now (image .entry)) (now (image .exit)) r ⌝ }
+    ensures { λ r. ⌜ ReturnsWithin limit (shapeFrom (now (geometry .entry))) erasesAll (now (image .entry)) (now (image .exit)) r ⌝ }
 {
     let s = shape_of(geometry);
     codes::erased_code(queue::erase_all_limited(image, s, limit))

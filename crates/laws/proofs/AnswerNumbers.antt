@@ -30,8 +30,8 @@ told f back e x y q = sym (e x) ∙ ap back q ∙ e y
 -- ---- reading back
 
 -- the refusals from row 2 on, where the value n comes with the row; no refusal has row 6 or 8
-abbrev pub refusals : ℕ → List Refusal
-refusals n =
+abbrev pub refusalsFromTwo : ℕ → List Refusal
+refusalsFromTwo n =
     refusal.ItemTooBig ∷ refusal.FullStorage ∷ refusal.BufferTooSmall n ∷ refusal.Corrupted ∷ refusal.Cut ∷ refusal.Cut ∷ refusal.Cut
     ∷ refusal.BadGeometry ∷ refusal.StartRangeNotAtPageBoundary ∷ refusal.EndRangeNotAtPageBoundary ∷ refusal.RangeTooSmall
     ∷ refusal.PagesTooSmall ∷ refusal.WordSizeTooLarge ∷ refusal.BadWord ∷ refusal.TooLarge ∷ refusal.OutsideImage ∷ []
@@ -41,7 +41,7 @@ abbrev pub read : {A : Type 0} → (List ℕ → A) → A → (Refusal → A) �
 read done none refuse [] = none
 read done none refuse (zero ∷ values) = done values
 read done none refuse (suc zero ∷ values) = none
-read done none refuse (suc (suc k) ∷ values) = refuse (getD (refusals (getD values 0 0)) k refusal.Cut)
+read done none refuse (suc (suc k) ∷ values) = refuse (getD (refusalsFromTwo (getD values 0 0)) k refusal.Cut)
 
 pub read-row : {A : Type 0} (done : List ℕ → A) (none : A) (refuse : Refusal → A) (x : Refusal) → read done none refuse (row x) ≡ refuse x
 unfolding row

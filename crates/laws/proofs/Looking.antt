@@ -30,15 +30,15 @@ pub record Refused (g : Geometry) (d : List ℕ) : Type 0 where
   pub wrong : (lengthCrc (part 4 2 d) ≡ numberOf (part 6 2 d) → ⊥) ⊎ (length d < headerSize g + roundUp (g .word) (numberOf (part 4 2 d)))
 
 -- what each answer says
-abbrev pub Tells : Geometry → List ℕ → Look → Type 0
-Tells g d stop = (length d < headerSize g) ⊎ (blank (take (headerSize g) d) ≡ true)
-Tells g d bad = Refused g d
-Tells g d (item c n body) = Taken g d c n body
+abbrev pub LookTells : Geometry → List ℕ → Look → Type 0
+LookTells g d stop = (length d < headerSize g) ⊎ (blank (take (headerSize g) d) ≡ true)
+LookTells g d bad = Refused g d
+LookTells g d (item c n body) = Taken g d c n body
 
 module _ (g : Geometry) (d : List ℕ) where
   -- ---- from the answer to the bytes
 
-  tells : Tells g d (look g d)
+  tells : LookTells g d (look g d)
   unfolding look decode
   tells = by (ltb (length d) (headerSize g)) (blank (take (headerSize g) d)) refl refl
     where
@@ -50,7 +50,7 @@ module _ (g : Geometry) (d : List ℕ) where
 
       behind : (s t : Bool) → eqb (lengthCrc (part 4 2 d)) (numberOf (part 6 2 d)) ≡ s → leb size (length d) ≡ t
           → ltb (length d) (headerSize g) ≡ false → blank (take (headerSize g) d) ≡ false
-          → Tells g d (cond (s && t) (item (numberOf (take 4 d)) len (part (headerSize g) len d)) bad)
+          → LookTells g d (cond (s && t) (item (numberOf (take 4 d)) len (part (headerSize g) len d)) bad)
       behind true true s t u v = record {
         room = leb-true size (length d) t;
         used = v;
@@ -66,19 +66,19 @@ module _ (g : Geometry) (d : List ℕ) where
         wrong = inl (eqb-false (lengthCrc (part 4 2 d)) (numberOf (part 6 2 d)) s);
       }
 
-      by : (s t : Bool) → ltb (length d) (headerSize g) ≡ s → blank (take (headerSize g) d) ≡ t → Tells g d (cond (s || t) stop (decode g d))
+      by : (s t : Bool) → ltb (length d) (headerSize g) ≡ s → blank (take (headerSize g) d) ≡ t → LookTells g d (cond (s || t) stop (decode g d))
       by true t u v = inl (ltb-true (length d) (headerSize g) u)
       by false true u v = inr v
       by false false u v = behind (eqb (lengthCrc (part 4 2 d)) (numberOf (part 6 2 d))) (leb size (length d)) refl refl u v
 
   pub look-stop : look g d ≡ stop → (length d < headerSize g) ⊎ (blank (take (headerSize g) d) ≡ true)
-  look-stop e = subst (Tells g d) e tells
+  look-stop e = subst (LookTells g d) e tells
 
   pub look-bad : look g d ≡ bad → Refused g d
-  look-bad e = subst (Tells g d) e tells
+  look-bad e = subst (LookTells g d) e tells
 
   pub look-item : {c n : ℕ} {body : List ℕ} → look g d ≡ item c n body → Taken g d c n body
-  look-item e = subst (Tells g d) e tells
+  look-item e = subst (LookTells g d) e tells
 
   -- where an item is accepted a word has some bytes
   pub look-word : {c n : ℕ} {body : List ℕ} → look g d ≡ item c n body → 0 < g .word

@@ -30,11 +30,11 @@ popped-quiet g (this h) = writes-quiet g (h .place) (encode g 0 (h .len))
 popped-quiet g spoilt = refl
 
 -- the numbers of the other cases are all that a `let .. else` tells
-pub not-present : (g : Geometry) (im : List ℕ) (f : Found) → OneOf (0 ∷ 1 ∷ 3 ∷ []) (tagOf the-type f) → popped g (foundAs g im f) ≡ []
-not-present g im found.Nothing k = refl
-not-present g im (found.TooSmall n) k = refl
-not-present g im (found.Present x) k = absurd (miss (0 ∷ 1 ∷ 3 ∷ []) 2 tt k)
-not-present g im found.Corrupted k = refl
+pub pops-nothing : (g : Geometry) (im : List ℕ) (f : Found) → OneOf (0 ∷ 1 ∷ 3 ∷ []) (tagOf the-type f) → popped g (foundAs g im f) ≡ []
+pops-nothing g im found.Nothing k = refl
+pops-nothing g im (found.TooSmall n) k = refl
+pops-nothing g im (found.Present x) k = absurd (miss (0 ∷ 1 ∷ 3 ∷ []) 2 tt k)
+pops-nothing g im found.Corrupted k = refl
 
 -- ---- the search, and then the pop of what it found
 

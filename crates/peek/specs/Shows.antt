@@ -12,8 +12,8 @@ use Rattle.search.specs.declared.Searched.{Searched}
 use Rattle.search.specs.Meanings.{foundAs}
 
 -- r is what a call shows that came to s
-abbrev pub Shows : Searched → Shown → Type 0
-Shows s r = (g : Geometry) (im : List ℕ) → shownAs r ≡ unlessCut (s .spent) (shownBy (foundAs g im (s .found)))
+abbrev pub ShowsFound : Searched → Shown → Type 0
+ShowsFound s r = (g : Geometry) (im : List ℕ) → shownAs r ≡ unlessCut (s .spent) (shownBy (foundAs g im (s .found)))
 
 -- the item that was found is popped: where the search s was cut, all is left as it is; else the header's stores take the image from i to o
 pub record Pops (g : Geometry) (s : Searched) (i o : List ℕ) (r : Searched) : Type 0 where

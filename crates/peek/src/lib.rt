@@ -5,7 +5,7 @@ ghost use Rattle.paper.specs.Search as plans;
 ghost use Rattle.chip.specs.Within.{Within};
 ghost use Rattle.chip.specs.Run.{WholeShown, under};
 ghost use Rattle.search.specs.Meanings.{FoundIn};
-ghost use Rattle.peek.specs.Shows.{Shows, Pops};
+ghost use Rattle.peek.specs.Shows.{ShowsFound, Pops};
 use chip::Budget;
 use paper::Geometry;
 use paper::Refusal;
@@ -33,7 +33,7 @@ pub fn pop(image: &mut [u8], buffer: &mut [u8], b: Budget, g: Geometry) -> Shown
 
 // What a call answers that came to that.
 fn shown_by(searched: Searched) -> Shown
-    ensures { λ r. ⌜ Shows searched r ⌝ }
+    ensures { λ r. ⌜ ShowsFound searched r ⌝ }
 {
     let spent = searched.spent;
     if spent.cut {

@@ -14,15 +14,15 @@ use Rattle.item.specs.Places.{Inside}
 
 -- every page has more than a word
 inner : {g : Geometry} → Good g → g .word < g .page
-inner good = omega (arith, good .room, good .low)
+inner good = omega (arith, good .sized .room, good .sized .low)
 
 pub readable : {g : Geometry} {n p a : ℕ} → Within g n → p < g .pages → pageStart g p ≤ a → a ≤ dataEnd g p → ReadableFrom g a
-readable {g} {n} {p} {a} w h l u = between-readable g (inner (w .good)) (w .good .low) p a h l u
+readable {g} {n} {p} {a} w h l u = between-readable g (inner (w .good)) (w .good .sized .low) p a h l u
 
 pub start-readable : {g : Geometry} {n p a : ℕ} → Within g n → p < g .pages → a ≡ dataStart g p → ReadableFrom g a
 start-readable {g} {n} {p} w h e =
     let d = data-in g p n w h in
-    readable w h (omega arith) (omega (arith, w .good .room))
+    readable w h (omega arith) (omega (arith, w .good .sized .room))
 
 -- the page of an address does not begin behind it
 pub page-before : {g : Geometry} {n p a : ℕ} → Within g n → g .start ≤ a → p ≡ pageOf g a → pageStart g p ≤ a
@@ -33,7 +33,7 @@ pub stands-before : (g : Geometry) {p a : ℕ} → Good g → p < g .pages → p
     → (fromAddress a ≡ standAt g p a) × ReadableFrom g a
 unfolding standAt
 stands-before g {p} {a} good h l t =
-    ((rw (lt-ltb a (dataEnd g p) t) refl), between-readable g (inner good) (good .low) p a h l (omega arith))
+    ((rw (lt-ltb a (dataEnd g p) t) refl), between-readable g (inner good) (good .sized .low) p a h l (omega arith))
 
 pub stands-behind : (g : Geometry) (p a : ℕ) → dataEnd g p ≤ a → afterPage p ≡ standAt g p a
 unfolding standAt

@@ -5,13 +5,13 @@ use native.Mathlib.Omega.{arith}
 use lib.Bits.{and-mask}
 use lib.Dec.{lit<}
 use Rattle.paper.specs.Checksum.{lengthPoly}
-use Rattle.checksum.proofs.BitLoop.{Held, held-none, turn-even, turn-odd, held-all}
+use Rattle.checksum.proofs.BitLoop.{Remains, held-none, turn-even, turn-odd, held-all}
 use Rattle.checksum.proofs.Constants.{length-constant}
 use Rattle.checksum.proofs.shifted16.Statement.{statement}
 use Rattle.checksum.proofs.shifted16.Tie as tie
 
 abbrev Inv-loop : tie.InvT-loop
-Inv-loop crc c₀ counter₀ c counter = Held 16 lengthPoly crc c counter
+Inv-loop crc c₀ counter₀ c counter = Remains 16 lengthPoly crc c counter
 
 abbrev μ-loop : tie.MeasureT-loop
 μ-loop crc c₀ counter₀ c counter = 8 - counter

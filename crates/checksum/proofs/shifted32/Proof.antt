@@ -6,13 +6,13 @@ use borrow.Author.Tests.{ltb-true, ltb-false}
 use lib.Bits.{and-mask}
 use lib.Dec.{lit<}
 use Rattle.paper.specs.Checksum.{dataPoly}
-use Rattle.checksum.proofs.BitLoop.{Held, held-none, turn-even, turn-odd, held-all}
+use Rattle.checksum.proofs.BitLoop.{Remains, held-none, turn-even, turn-odd, held-all}
 use Rattle.checksum.proofs.Constants.{data-constant}
 use Rattle.checksum.proofs.shifted32.Statement.{statement}
 use Rattle.checksum.proofs.shifted32.Tie as tie
 
 abbrev Inv-loop : tie.InvT-loop
-Inv-loop crc c₀ counter₀ c counter = Held 32 dataPoly crc c counter
+Inv-loop crc c₀ counter₀ c counter = Remains 32 dataPoly crc c counter
 
 abbrev μ-loop : tie.MeasureT-loop
 μ-loop crc c₀ counter₀ c counter = 8 - counter

@@ -4,7 +4,7 @@ use mathlib.Core.Path.{_∙_}
 use mathlib.Core.Logic.{⊎-elim}
 use borrow.Author.Tests.{eqb-false, eq-eqb, ne-eqb, lt-ltb, le-ltb}
 use Rattle.paper.specs.Refusals.{rules, check}
-use Rattle.chip.proofs.Checking.{refuses, passes, checks}
+use Rattle.chip.proofs.Checking.{refuses, passes, check-promised}
 use Rattle.chip.proofs.check_geometry.Statement.{statement}
 use Rattle.chip.proofs.check_geometry.Tie as tie
 
@@ -17,7 +17,7 @@ returns : tie.Need-returns
 unfolding check rules
 returns c =
     let args-s = c .before .before .args .s in
-    checks (c .before .before .args .n) args-s _ (omega arith)
+    check-promised (c .before .before .args .n) args-s _ (omega arith)
     (refuses args-s _ _
     (⊎-elim (λ w. simp (eq-eqb _ 0 (w .taken)))
     (⊎-elim (λ w. simp (ne-eqb _ 0 (w .0 .left), w .2 .taken))
@@ -33,7 +33,7 @@ returns-2 c =
     let s = c .before .before .before .before .before .before .before .before .args .s in
     let if1-left = c .before .before .before .before .before .before .if1 .left in
     let if2-left = c .before .before .before .before .if2 .left in
-    checks args-n s _ (omega arith)
+    check-promised args-n s _ (omega arith)
     (refuses s _ _ (simp (ne-eqb _ 0 (c .if4 .taken)))
     ∙ passes s _ _ (simp (ne-eqb _ 0 if1-left, if2-left, c .before .before .if3 .left)))
 
@@ -48,7 +48,7 @@ returns-3 c =
     let if1-left = c .before .before .before .before .before .before .before .before .if1 .left in
     let if2-left = c .before .before .before .before .before .before .if2 .left in
     let if3-left = c .before .before .before .before .if3 .left in
-    checks args-n s _ (omega arith)
+    check-promised args-n s _ (omega arith)
     (refuses s _ _ (simp (ne-eqb _ 0 (c .if5 .taken)))
     ∙ passes s _ _ (simp (eq-eqb _ 0 (c .before .before .if4 .left)))
     ∙ passes s _ _ (simp (ne-eqb _ 0 if1-left, if2-left, if3-left)))
@@ -75,7 +75,7 @@ returns-4 c =
     let if3-left = c .before .before .before .before .before .before .before .before .if3 .left in
     let if4-left = c .before .before .before .before .before .before .if4 .left in
     let if5-left = c .before .before .before .before .if5 .left in
-    checks args-n s _ (omega arith)
+    check-promised args-n s _ (omega arith)
     (refuses s _ _ (lt-ltb _ _ (c .if6 .taken))
     ∙ passes s _ _ (simp (eq-eqb _ 0 if5-left))
     ∙ passes s _ _ (simp (eq-eqb _ 0 if4-left))
@@ -97,7 +97,7 @@ returns-5 c =
     let if3-left = c .before .before .before .before .before .before .before .before .before .if3 .left in
     let if4-left = c .before .before .before .before .before .before .before .if4 .left in
     let if5-left = c .before .before .before .before .before .if5 .left in
-    checks args-n s _ (omega arith)
+    check-promised args-n s _ (omega arith)
     (c .check-sizes .ensures
     ∙ passes s _ _ (le-ltb _ _ (c .before .if6 .left))
     ∙ passes s _ _ (simp (eq-eqb _ 0 if5-left))

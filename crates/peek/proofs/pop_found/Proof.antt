@@ -4,7 +4,7 @@ use mathlib.Core.Path.{refl, sym, _∙_}
 use mathlib.Core.Bool.{false≢true}
 use Rattle.chip.proofs.Running.{did-none}
 use Rattle.chip.proofs.Binding.{uncut}
-use Rattle.peek.proofs.Popping.{not-present}
+use Rattle.peek.proofs.Popping.{pops-nothing}
 use Rattle.peek.proofs.pop_found.Statement.{statement}
 use Rattle.peek.proofs.pop_found.Tie as tie
 
@@ -17,7 +17,7 @@ enum-known-found c = search needs
 returns-2 : tie.Need-returns-2
 returns-2 c =
     let args = c .before .before .before .before .args in
-    let n = not-present (args .g) (args .image .now) (args .searched .found) (c .match .keys2) in
+    let n = pops-nothing (args .g) (args .image .now) (args .searched .found) (c .match .keys2) in
     record {
       cut = λ t. (refl, refl);
       done =

@@ -27,7 +27,7 @@ abbrev μ-loop : tie.MeasureT-loop
 
 mul-turns : tie.Need-mul-turns Inv-loop μ-loop
 mul-turns c =
-    let pre-0-good-few = c .before .before .before .pre .0 .good .few in
+    let pre-0-good-few = c .before .before .before .pre .0 .good .sized .few in
     omega (arith, pre-0-good-few)
 
 loop-holds : tie.Need-loop-holds Inv-loop μ-loop
