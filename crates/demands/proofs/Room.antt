@@ -11,7 +11,7 @@ use Rattle.paper.specs.Refusals.{check, Answer, empty}
 use Rattle.paper.specs.Calls.{Call, pushes, peeks, pops, fits, spaces, erasesAll, planOf}
 use Rattle.paper.specs.Waiting.{waiting}
 use Rattle.paper.specs.Fifo.{whole, imageNext, bufferOf, Ghost}
-use Rattle.demand3.specs.Claims as claims
+use Rattle.demand3.specs.Claims.{TakesAny, RoomOfPlans}
 use Rattle.demand3.proofs.RoomAgain.{room-again}
 use Rattle.demands.specs.Histories.{Lent, unlimited, Promised, powerOf}
 use Rattle.demands.specs.Demands.{CallsTakeAny, RoomAgainOfCalls}
@@ -24,7 +24,7 @@ module _ (s : Shape) (g : Geometry) (im : List ℕ) (a : check (length im) s ≡
   answer-of : (c : Call) (o e : List ℕ) (x : Answer) → Promised s unlimited c im o e x → x ≡ planOf g im c .answer
   answer-of c o e x h = whole-of s im o e x unlimited c h .answer ∙ ap (λ (p : Plan Answer). p .answer) (accepted-as s im c g a)
 
-  takes-any : claims.TakesAny g im → CallsTakeAny s g im
+  takes-any : TakesAny g im → CallsTakeAny s g im
   takes-any f slip t o e x h = answer-of (pushes slip _) o e x h ∙ f slip t
 
 -- what a whole call left is accepted too
@@ -33,7 +33,7 @@ accepted-then : (s : Shape) (g : Geometry) (im : List ℕ) → check (length im)
 accepted-then s g im a c o e x h = ap (λ (n : ℕ). check n s) (outside-of s im o e x unlimited c h .size) ∙ a
 
 module _ (s : Shape) (g : Geometry) (im : List ℕ) (gh : Ghost) (C : AsPlans s g im gh) where
-  R : claims.Room g im
+  R : RoomOfPlans g im
   R = room-again g im gh (C .reached)
 
   says-so : (c : Call) → Lent c → waiting g im ≡ [] → dataSize g ≤ length (bufferOf c) → planOf g im c .answer ≡ empty
@@ -44,7 +44,7 @@ module _ (s : Shape) (g : Geometry) (im : List ℕ) (gh : Ghost) (C : AsPlans s 
   says-so spaces l z k = absurd l
   says-so erasesAll l z k = absurd l
 
-  frees : (c : Call) → Lent c → 2 ≤ g .pages → planOf g im c .answer ≡ empty → claims.TakesAny g (imageNext g im c whole)
+  frees : (c : Call) → Lent c → 2 ≤ g .pages → planOf g im c .answer ≡ empty → TakesAny g (imageNext g im c whole)
   frees (peeks b) l two e = R .peekFrees two b e
   frees (pops b) l two e = R .popFrees two b e
   frees (pushes slip over) l two e = absurd l
@@ -57,7 +57,7 @@ module _ (s : Shape) (g : Geometry) (im : List ℕ) (gh : Ghost) (C : AsPlans s 
   freed c l two o e x h q =
       let i : o ≡ imageNext g im c whole = image-of s g im (C .accepted) unlimited c o e x h in
       takes-any s g o (accepted-then s g im (C .accepted) c o e x h)
-      (subst (claims.TakesAny g) (sym i) (frees c l two (sym (answer-of s g im (C .accepted) c o e x h) ∙ q)))
+      (subst (TakesAny g) (sym i) (frees c l two (sym (answer-of s g im (C .accepted) c o e x h) ∙ q)))
 
 pub room-again-of-calls : RoomAgainOfCalls
 room-again-of-calls s g im gh P =

@@ -101,7 +101,7 @@ module _ (g : Geometry) (im : List ℕ) (a e : ℕ) {k : MaybeHeader} (is : Head
         let o = i .good in
         let f = fits in
         let y : part (headerSize g) (x .length) (part a (e - a) im) ≡ part (a + headerSize g) (x .length) im =
-        part-part a (e - a) (headerSize g) (x .length) im (omega (arith, round-up-ge (g .word) (x .length) (o .low))) in
+        part-part a (e - a) (headerSize g) (x .length) im (omega (arith, round-up-ge (g .word) (x .length) (o .sized .low))) in
         ap (λ (v : ℕ). v + 8 * x .length) u ∙ ap (λ (b : List ℕ). seen a (item (x .crc) (x .length) b)) (sym y) ∙ ap (seen a) (told (header.Accepted x) q)
 
 -- ---- an accepted header
