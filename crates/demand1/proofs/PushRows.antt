@@ -11,8 +11,7 @@ use Rattle.paper.specs.declared.Refusal.the-variants as refusal
 use Rattle.paper.specs.Chip.{headerSize, dataSize, Event, imageAfter, Plan, plan, bind, Try, fails, gives}
 use Rattle.paper.specs.Pages.{repair}
 use Rattle.paper.specs.Refusals.{refused}
-use Rattle.paper.specs.Push.{Spot, full, at, tooBig, spotStep, spotFor, pushAt, push}
-use Rattle.paper.specs.Push.{Full}
+use Rattle.paper.specs.Push.{Spot, full, at, tooBig, spotStep, spotFor, pushAt, push, Full}
 use Rattle.laws.proofs.Accepted.{Laid}
 use Rattle.demand1.specs.Rows.{repaired, Fails, failed, OnlyMark, OnStep, TooBig, OfPush}
 use Rattle.demand1.proofs.Lists.{never}

@@ -11,8 +11,7 @@ use Rattle.paper.specs.declared.PageState.the-variants.{Open, PartialOpen, Clos
 use Rattle.paper.specs.Chip.{Event, imageBy, imageAfter, Plan, plan, bind, Try, fails, gives}
 use Rattle.paper.specs.Scan.{pageWalk}
 use Rattle.paper.specs.Pages.{state, same, setStart, next, youngest}
-use Rattle.paper.specs.Push.{Spot, full, findSpot, spotOn, spotStep}
-use Rattle.paper.specs.Push.{Full}
+use Rattle.paper.specs.Push.{Spot, full, findSpot, spotOn, spotStep, Full}
 use Rattle.laws.proofs.Accepted.{Laid}
 use Rattle.laws.proofs.Ring.{next-in}
 use Rattle.laws.proofs.Sides.{Apart, is, differs, apart}

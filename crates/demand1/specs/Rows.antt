@@ -14,11 +14,10 @@ use Rattle.paper.specs.Scan.{Head, pageWalk, payloads}
 use Rattle.paper.specs.declared.PageState.the-variants.{Corrupted}
 use Rattle.paper.specs.Pages.{state, setStart, youngest, oldest, repair}
 use Rattle.paper.specs.Refusals.{check, Answer, done, shown, number, none, empty, refused}
-use Rattle.paper.specs.Push.{spotStep, push}
+use Rattle.paper.specs.Push.{spotStep, push, Full}
 use Rattle.paper.specs.Search.{peek, pop}
 use Rattle.paper.specs.Counts.{fit, findMaxFit, space, spaceLeft}
 use Rattle.paper.specs.Calls.{eraseAll, Call, requested, limited}
-use Rattle.paper.specs.Push.{Full}
 pub use Rattle.paper.specs.Ways.{Each, repaired, Fails, failed, Passed, Stops, TooLong, Seen, Way, direct, mended}
 unfoldable pub use Rattle.paper.specs.Ways.{onTheWay}
 use Rattle.demand1.specs.Shapes.{Iff}

@@ -12,11 +12,10 @@ use Rattle.paper.specs.Chip.{headerSize, Event, imageAfter, storeCount, before,
 use Rattle.paper.specs.Slip.{encode}
 use Rattle.paper.specs.Scan.{Head}
 use Rattle.paper.specs.Refusals.{Answer, done, shown, empty, refused}
-use Rattle.paper.specs.Push.{at, tooBig, spotFor, itemAt}
+use Rattle.paper.specs.Push.{at, tooBig, spotFor, itemAt, Full}
 use Rattle.paper.specs.Search.{shownBy, popped, this}
 use Rattle.paper.specs.Calls.{Call, pushes, peeks, pops, fits, spaces, erasesAll, planOf}
 use Rattle.paper.specs.Waiting.{waiting}
-use Rattle.paper.specs.Push.{Full}
 use Rattle.paper.specs.Fifo.{cutAfter, eventsOf, imageNext, ghostNext, listAfter, Bytes, Ghost, Fair}
 use Rattle.laws.proofs.Events.{image-append, before-less, before-more}
 use Rattle.laws.proofs.Sides.{Side, below, above, side}

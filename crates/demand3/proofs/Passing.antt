@@ -13,9 +13,8 @@ use Rattle.paper.specs.declared.Geometry.{Geometry}
 use Rattle.paper.specs.Checksum.{dataCrc}
 use Rattle.paper.specs.Chip.{wordsFor, roundUp, headerSize, part, Event, imageAfter, storeCount, before, plan, gives}
 use Rattle.paper.specs.Slip.{encode}
-use Rattle.paper.specs.Push.{at, tooBig, spotFor, itemAt}
+use Rattle.paper.specs.Push.{at, tooBig, spotFor, itemAt, Full}
 use Rattle.paper.specs.Calls.{Call, pushes, peeks, pops, fits, spaces, erasesAll}
-use Rattle.paper.specs.Push.{Full}
 use Rattle.paper.specs.Fifo.{Power, whole, cutAfter, Counted, slipOf, eventsOf, imageNext, headerPlan, headerAt, Ghost, Bytes, NoPassing}
 use Rattle.laws.proofs.Accepted.{Word, four, wide}
 use Rattle.laws.proofs.Events.{image-append, before-more}

@@ -16,10 +16,9 @@ use Rattle.paper.specs.Chip.{headerSize, dataSize, part, Event, imageAfter, sto
 use Rattle.paper.specs.Slip.{encode}
 use Rattle.paper.specs.Scan.{pageWalk}
 use Rattle.paper.specs.Refusals.{done, refused}
-use Rattle.paper.specs.Push.{full, at, tooBig, spotFor, itemAt, pushAt, push}
+use Rattle.paper.specs.Push.{full, at, tooBig, spotFor, itemAt, pushAt, push, Full}
 use Rattle.paper.specs.Calls.{pushes, planOf}
 use Rattle.paper.specs.Waiting.{waiting}
-use Rattle.paper.specs.Push.{Full}
 use Rattle.paper.specs.Fifo.{Power, whole, cutAfter, eventsOf, imageNext, Ghost, ghostNext, headerPlan, headerAt, got, Bytes, Fair, added, big, noRoom}
 use Rattle.laws.proofs.Events.{image-append, before-less, before-more, before-all}
 use Rattle.laws.proofs.Sides.{Side, below, above, side}

@@ -13,12 +13,11 @@ use Rattle.paper.specs.Chip.{dataSize, imageAfter, Plan, gives}
 use Rattle.paper.specs.Scan.{Walk, pageWalk, anyLive}
 use Rattle.paper.specs.Pages.{next, state, youngest, from}
 use Rattle.paper.specs.Refusals.{Answer, done, empty, refused}
-use Rattle.paper.specs.Push.{tooBig, spotFor}
+use Rattle.paper.specs.Push.{tooBig, spotFor, Full}
 use Rattle.paper.specs.Search.{nothing, shownBy, popped}
 use Rattle.paper.specs.Calls.{Call, pushes, peeks, pops, planOf}
 use Rattle.paper.specs.Waiting.{waiting}
 use Rattle.paper.specs.Ways.{onTheWay, TooLong, Way, direct}
-use Rattle.paper.specs.Push.{Full}
 use Rattle.paper.specs.Fifo.{whole, eventsOf, imageNext}
 use Rattle.laws.proofs.Ring.{turn, turn-once, next-turn}
 use Rattle.demand1.proofs.SearchRows.{of-peek, of-pop}

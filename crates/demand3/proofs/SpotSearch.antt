@@ -13,9 +13,8 @@ use Rattle.paper.specs.declared.PageState.the-variants.{Open, PartialOpen, Clos
 use Rattle.paper.specs.Chip.{roundDown, headerSize, dataStart, dataSize, Event, erase, imageBy, imageAfter, Plan, plan, Try, gives}
 use Rattle.paper.specs.Scan.{Walk, pageWalk, freeSpot, serves, anyLive}
 use Rattle.paper.specs.Pages.{next, state, setStart, setEnd, youngest, oldest}
-use Rattle.paper.specs.Push.{Spot, full, at, turnPage, spotOn, spotStep, spotFor}
+use Rattle.paper.specs.Push.{Spot, full, at, turnPage, spotOn, spotStep, spotFor, Full}
 use Rattle.paper.specs.Waiting.{waiting}
-use Rattle.paper.specs.Push.{Full}
 use Rattle.laws.proofs.Accepted.{Laid}
 use Rattle.laws.proofs.Places.{data-whole}
 use Rattle.laws.proofs.Ring.{turn, turn-zero, turn-suc, turn-full, turn-apart, turn-once, next-turn}

@@ -3,11 +3,10 @@ use native.Mathlib.Omega.{arith}
 use mathlib.Core.Path.{sym, ap, ap₂, _∙_}
 use Prim.Native.Nat.{ℕ}
 use Rattle.paper.specs.Chip.{roundUp, headerSize, part}
-use Rattle.paper.specs.Slip.{numberOf}
+use Rattle.paper.specs.Slip.{numberOf, item}
 use Rattle.checksum.proofs.Answers.{length-is}
 use Rattle.item.proofs.Parts.{part-two, take-four}
 use Rattle.item.proofs.Decoding.{decode-unequal, decode-long, decode-item}
-use Rattle.paper.specs.Slip.{item}
 use Rattle.item.proofs.ItemHeader.decoded.Statement.{statement}
 use Rattle.item.proofs.ItemHeader.decoded.Tie as tie
 
