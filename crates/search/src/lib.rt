@@ -118,6 +118,7 @@ pub fn search(image: &mut [u8], buffer: &mut [u8], b: Budget, g: Geometry) -> Se
     }
 }
 
+// Peek and pop go no further, so where the search stands is left aside.
 fn found_by(ended: Ended) -> Found
     ensures { λ r. ⌜ FoundBy ended r ⌝ }
 {
