@@ -1,4 +1,4 @@
--- A header of the list with its addresses, wherever it stands there: zeros in place of its CRC leave the list without it. Assumes nothing.
+-- A header of the list with its addresses, wherever it stands there: zeros in its CRC, from the first byte on, leave the list without it. Assumes nothing.
 use mathlib.Core.Bool.{Bool, true, false, cond}
 use mathlib.Core.List.{List, [], _∷_, _++_, append-assoc, head-eq-of-cons-eq, tail-eq-of-cons-eq}
 use mathlib.Core.Path.{_≡_, refl, sym, ap, ap₂, _∙_, subst}
@@ -12,7 +12,7 @@ use Rattle.paper.specs.Waiting.{waiting}
 use Rattle.laws.proofs.Ring.{turn}
 use Rattle.demand3.specs.Addresses.{presents, waitingHeads}
 use Rattle.demand3.proofs.Replaced.{NoneAccepted}
-use Rattle.demand3.proofs.ZeroedScan.{zeros4}
+use Rattle.demand3.proofs.ZeroedScan.{zeros, OfCrc}
 use Rattle.demand3.proofs.ListedHeads.{headsIn, runHeads}
 use Rattle.demand3.proofs.Invariant.{Inv, listed-heads}
 use Rattle.demand3.proofs.PresentItem.{PresentItem, nil-not, item-before, item-after, item-waits, struck-listed, struck-waits}
@@ -164,9 +164,10 @@ module _ {g : Geometry} {im : List ℕ} {xs : List Head} {h : Head} {ys : List H
   pub list-is : waiting g im ≡ payloads xs ++ (h .body ∷ payloads ys)
   list-is = item-waits (L .item) ∙ ap₂ (λ (x y : List Head). payloads x ++ (h .body ∷ payloads y)) (L .before-is) (L .after-is)
 
-  module _ (U : NoneAccepted (pageWalk g im (L .item .page) .refused) (pageWalk g (put (h .place) zeros4 im) (L .item .page) .heads)) where
-    pub headers-without : waitingHeads g (put (h .place) zeros4 im) ≡ xs ++ ys
-    headers-without = struck-listed (L .item) U ∙ ap₂ (λ (x y : List Head). x ++ y) (L .before-is) (L .after-is)
+  module _ {i : ℕ} (Z : OfCrc i)
+      (U : NoneAccepted (pageWalk g im (L .item .page) .refused) (pageWalk g (put (h .place) (zeros i) im) (L .item .page) .heads)) where
+    pub headers-without : waitingHeads g (put (h .place) (zeros i) im) ≡ xs ++ ys
+    headers-without = struck-listed (L .item) Z U ∙ ap₂ (λ (x y : List Head). x ++ y) (L .before-is) (L .after-is)
 
-    pub list-without : waiting g (put (h .place) zeros4 im) ≡ payloads xs ++ payloads ys
-    list-without = struck-waits (L .item) U ∙ ap₂ (λ (x y : List Head). payloads x ++ payloads y) (L .before-is) (L .after-is)
+    pub list-without : waiting g (put (h .place) (zeros i) im) ≡ payloads xs ++ payloads ys
+    list-without = struck-waits (L .item) Z U ∙ ap₂ (λ (x y : List Head). payloads x ++ payloads y) (L .before-is) (L .after-is)

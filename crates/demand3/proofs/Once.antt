@@ -22,6 +22,7 @@ use Rattle.laws.proofs.Sides.{Side, below, above, side}
 use Rattle.demand3.specs.Claims.{ChangesOnce, AlwaysOnce}
 use Rattle.demand3.proofs.Events.{avoid-before}
 use Rattle.demand3.proofs.Words.{before-write}
+use Rattle.demand3.proofs.ZeroedHeader.{crc-words}
 use Rattle.demand3.proofs.Invariant.{Inv}
 use Rattle.demand3.proofs.FreeSpot.{spotOf}
 use Rattle.demand3.proofs.Item.{itemWords}
@@ -203,7 +204,8 @@ module _ {g : Geometry} {im : List ℕ} {o b : ℕ} (I : Inv g im o b) (gh : Gho
           let bm : before k (E ++ wr) ≡ E ++ before j wr = before-more k E wr (omega arith) in
           let st : StayRefused g im gh (E ++ before j wr) = λ nw. rw (pop-is, bm) at (Fs k .noneAgain nw) in
           list-at g im (pops buf) pop-is k bm
-          ∙ peekpop.taken-list I buf gh h a X (before j wr) (λ p. avoid-before p j wr (peekpop.avoids I buf gh h a X p)) st (zeroed (X .first) j (omega arith))
+          ∙ peekpop.taken-list I buf gh h a X (crc-words (g .word) j (I .good .sized .low) (omega arith)) (before j wr)
+          (λ p. avoid-before p j wr (peekpop.avoids I buf gh h a X p)) st (zeroed (X .first) j)
 
 -- ---- every call
 

@@ -26,7 +26,8 @@ use Rattle.demand3.proofs.Events.{Avoids, avoid-append, avoid-before}
 use Rattle.demand3.proofs.Words.{buffer-writes, before-write, avoid-writes}
 use Rattle.demand3.proofs.Plans.{bind-known, bind-last}
 use Rattle.demand3.proofs.Replaced.{NoneAccepted}
-use Rattle.demand3.proofs.ZeroedScan.{zeros4}
+use Rattle.demand3.proofs.ZeroedScan.{zeros, OfCrc}
+use Rattle.demand3.proofs.ZeroedHeader.{crc-words, crc-whole}
 use Rattle.demand3.proofs.Invariant.{Inv}
 use Rattle.demand3.proofs.Steady.{steady-before, steady-after, was-there}
 use Rattle.demand3.proofs.Ghosts.{StayRefused, unmet}
@@ -117,24 +118,24 @@ module _ {g : Geometry} {im : List ℕ} {o b : ℕ} (I : Inv g im o b) (buf : Li
     pub avoids : (p : ℕ) → Avoids p wr
     avoids p = avoid-writes g p (h .place) (encode g 0 (h .len))
 
-    -- words of its header were stored that hold the CRC
-    module _ (fs : List Event) (av : (p : ℕ) → Avoids p fs) (st : StayRefused g im gh (sought .events ++ fs))
-        (z : imageAfter g fs fin ≡ put (h .place) zeros4 fin) where
-      is : imageAfter g (sought .events ++ fs) im ≡ put (h .place) zeros4 fin
+    -- words of its header were stored that hold some of the CRC, or all of it
+    module _ {i : ℕ} (Z : OfCrc i) (fs : List Event) (av : (p : ℕ) → Avoids p fs) (st : StayRefused g im gh (sought .events ++ fs))
+        (z : imageAfter g fs fin ≡ put (h .place) (zeros i) fin) where
+      is : imageAfter g (sought .events ++ fs) im ≡ put (h .place) (zeros i) fin
       is = image-append g E fs im ∙ z
 
-      U : NoneAccepted (pageWalk g fin (X .first .old) .refused) (pageWalk g (put (h .place) zeros4 fin) (X .first .old) .heads)
+      U : NoneAccepted (pageWalk g fin (X .first .old) .refused) (pageWalk g (put (h .place) (zeros i) fin) (X .first .old) .heads)
       U = rw is at (unmet im (I .good) gh E (F .inv) fs (F .old) (first-in F) (inr (X .unerased, X .as-it-was)) (av (F .old)) st)
 
       taken-inv : Inv g (imageAfter g (sought .events ++ fs) im) (X .first .old) (X .first .runs)
-      taken-inv = rw is (popped-inv F U)
+      taken-inv = rw is (popped-inv F Z U)
 
       pub taken-list : waiting g (imageAfter g (sought .events ++ fs) im) ≡ tail (waiting g im)
-      taken-list = rw is (popped-list F U ∙ ap tail (sym (first-listed F) ∙ same-list))
+      taken-list = rw is (popped-list F Z U ∙ ap tail (sym (first-listed F) ∙ same-list))
 
       taken-traced : (w : Power) → Traced g im (pops buf) w (sought .events ++ fs)
       taken-traced w p hp x m =
-          let y = popped-heads F U p hp x (subst (λ (l : List ℕ). List·Memᴰ x (pageWalk g l p .heads)) is m) in
+          let y = popped-heads F Z U p hp x (subst (λ (l : List ℕ). List·Memᴰ x (pageWalk g l p .heads)) is m) in
           let r = was-there (sought .steady) p hp (y .0) (y .1) in
           inr (record { head = y .0; there = r .0; at = y .2; unerased = avoid-append p E fs (r .1) (av p) })
 
@@ -147,8 +148,9 @@ module _ {g : Geometry} {im : List ℕ} {o b : ℕ} (I : Inv g im o b) (buf : Li
         let B : bufferAfter g (E ++ wr) im buf ≡ shown-buf = buffer-append g E wr im buf ∙ buffer-writes g (h .place) (encode g 0 (h .len)) fin shown-buf in
         let f = sym same-list ∙ first-listed F in
         let v = pop-rows .seen the-way (h .len) .0 (pop-says a) in
-        whole-step im (pops buf) pl (taken-inv wr avoids st z)
-        (rw B (takes-first g im buf shown-buf (body-length F) (X .shown buf) f the-way v (taken-list wr avoids st z))) (taken-traced wr avoids st z whole)
+        whole-step im (pops buf) pl (taken-inv crc-whole wr avoids st z)
+        (rw B (takes-first g im buf shown-buf (body-length F) (X .shown buf) f the-way v (taken-list crc-whole wr avoids st z)))
+        (taken-traced crc-whole wr avoids st z whole)
     found-step (cutAfter k) Fr = by (side k (storeCount E))
       where
         later : storeCount E ≤ k → Side 0 (k - storeCount E) → Step g im (pops buf) (cutAfter k)
@@ -160,9 +162,10 @@ module _ {g : Geometry} {im : List ℕ} {o b : ℕ} (I : Inv g im o b) (buf : Li
             let bm : before k (E ++ wr) ≡ E ++ before j wr = before-more k E wr l in
             let st : StayRefused g im gh (E ++ before j wr) = λ nw. rw (pl, bm) at (Fr .noneAgain nw) in
             let av : (p : ℕ) → Avoids p (before j wr) = λ p. avoid-before p j wr (avoids p) in
-            let z = zeroed F j m in
-            cut-step im (pops buf) pl k {o = F .old} {b = F .runs} (rw bm (taken-inv (before j wr) av st z)) (inr (rw bm (taken-list (before j wr) av st z)))
-            (rw bm (taken-traced (before j wr) av st z (cutAfter k)))
+            let Z = crc-words (g .word) j (I .good .sized .low) m in
+            let z = zeroed F j in
+            cut-step im (pops buf) pl k {o = F .old} {b = F .runs} (rw bm (taken-inv Z (before j wr) av st z))
+            (inr (rw bm (taken-list Z (before j wr) av st z))) (rw bm (taken-traced Z (before j wr) av st z (cutAfter k)))
 
         by : Side k (storeCount E) → Step g im (pops buf) (cutAfter k)
         by (below l) = early-step im (pops buf) pl k (before-less k E wr l) (steady-before k (sought .steady))

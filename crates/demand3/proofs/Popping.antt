@@ -1,8 +1,8 @@
--- The first present item: zeros in place of its CRC take it from the front of the list. Assumes nothing.
+-- The first present item: zeros in its CRC, from the first byte on, take it from the front of the list. Assumes nothing.
 use mathlib.Core.Bool.{true}
 use mathlib.Core.List.{List, [], _∷_, _++_, List·Memᴰ}
 use mathlib.Core.Path.{_≡_, ap, ap₂, _∙_}
-use Prim.Native.Nat.{ℕ, _+_, _-_, _<_}
+use Prim.Native.Nat.{ℕ, _+_, _*_, _-_, _<_, min}
 use native.Mathlib.Omega.{arith}
 use lib.ListN.{length}
 use Rattle.paper.specs.declared.Geometry.{Geometry}
@@ -15,7 +15,7 @@ use Rattle.demand3.specs.Addresses.{presents}
 use Rattle.demand3.proofs.Payloads.{payloads-append}
 use Rattle.demand3.proofs.Addresses.{payloads-present}
 use Rattle.demand3.proofs.Replaced.{NoneAccepted}
-use Rattle.demand3.proofs.ZeroedScan.{zeros4}
+use Rattle.demand3.proofs.ZeroedScan.{zeros, OfCrc}
 use Rattle.demand3.proofs.ListedHeads.{runHeads}
 use Rattle.demand3.proofs.Listed.{run, payloads-run}
 use Rattle.demand3.proofs.Invariant.{Inv}
@@ -77,20 +77,20 @@ module _ {g : Geometry} {im : List ℕ} {h : Head} (F : FirstPresent g im h) whe
 
   -- ---- its header is stored again with CRC 0
 
-  pub zeroed : (j : ℕ) → 0 < j → imageAfter g (before j (writes g (h .place) (encode g 0 (h .len)))) im ≡ put (h .place) zeros4 im
+  pub zeroed : (j : ℕ) → imageAfter g (before j (writes g (h .place) (encode g 0 (h .len)))) im ≡ put (h .place) (zeros (min 4 (j * g .word))) im
   zeroed = item-zeroed X
 
-  pub zeroed-all : imageAfter g (writes g (h .place) (encode g 0 (h .len))) im ≡ put (h .place) zeros4 im
+  pub zeroed-all : imageAfter g (writes g (h .place) (encode g 0 (h .len))) im ≡ put (h .place) (zeros 4) im
   zeroed-all = item-zeroed-all X
 
-  module _ (U : NoneAccepted (pageWalk g im (F .old) .refused) (pageWalk g (put (h .place) zeros4 im) (F .old) .heads)) where
-    pub popped-inv : Inv g (put (h .place) zeros4 im) (F .old) (F .runs)
-    popped-inv = struck-inv X U
+  module _ {i : ℕ} (Z : OfCrc i) (U : NoneAccepted (pageWalk g im (F .old) .refused) (pageWalk g (put (h .place) (zeros i) im) (F .old) .heads)) where
+    pub popped-inv : Inv g (put (h .place) (zeros i) im) (F .old) (F .runs)
+    popped-inv = struck-inv X Z U
 
-    pub popped-list : waiting g (put (h .place) zeros4 im) ≡ payloads (F .post) ++ run g im (F .old) 1 (F .runs)
-    popped-list = struck-waits X U ∙ ap₂ (λ (x y : List (List ℕ)). x ++ y) nothing-before behind
+    pub popped-list : waiting g (put (h .place) (zeros i) im) ≡ payloads (F .post) ++ run g im (F .old) 1 (F .runs)
+    popped-list = struck-waits X Z U ∙ ap₂ (λ (x y : List (List ℕ)). x ++ y) nothing-before behind
 
     -- no address is accepted that was not
-    pub popped-heads : (p : ℕ) → p < g .pages → (x : Head) → List·Memᴰ x (pageWalk g (put (h .place) zeros4 im) p .heads)
+    pub popped-heads : (p : ℕ) → p < g .pages → (x : Head) → List·Memᴰ x (pageWalk g (put (h .place) (zeros i) im) p .heads)
         → (y : Head) × List·Memᴰ y (pageWalk g im p .heads) × (y .place ≡ x .place)
-    popped-heads = struck-places X U
+    popped-heads = struck-places X Z U

@@ -1,35 +1,34 @@
--- A present item: where it stands, and what zeros in place of its CRC make of its page, the invariant and the list. Assumes nothing.
+-- A present item: where it stands, and what zeros in its CRC, from the first byte on, make of its page, the invariant and the list. Assumes nothing.
 use mathlib.Core.Bool.{Bool, true, false}
 use mathlib.Core.List.{List, [], _∷_, _++_, append-assoc, List·Memᴰ, List·Memᴰ·head, List·Memᴰ·tail, List·Memᴰ·cases-cons, List·Memᴰ·append-cases, Memᴰ·append-left, Memᴰ·append-right}
 use mathlib.Core.Logic.{_⊎_, inl, inr}
 use mathlib.Core.Path.{_≡_, refl, sym, ap, ap₂, _∙_, subst}
-use Prim.Native.Nat.{ℕ, _+_, _*_, _-_, _≤_, _<_, suc}
-use native.Mathlib.Nat.{mul-le-mul-right, zero-add}
+use Prim.Native.Nat.{ℕ, _+_, _*_, _-_, _≤_, _<_, suc, min}
+use native.Mathlib.Nat.{zero-add}
 use native.Mathlib.Omega.{arith}
 use borrow.Author.Tests.{eqb-true, eqb-false}
 use lib.Dec.{eqb, lit<}
-use lib.ListN.{length, take, drop, length-append, length-drop}
+use lib.ListN.{length, take, drop, length-append, length-drop, length-replicate}
 use lib.Seq.{drop-drop, drop-at}
 use Rattle.paper.specs.declared.Geometry.{Geometry}
 use Rattle.paper.specs.declared.PageState.the-variants.{Open}
 use Rattle.paper.specs.Checksum.{lengthCrc}
 use Rattle.paper.specs.Chip.{headerSize, dataStart, dataSize, pageData, part, put, imageAfter, before, writes}
 use Rattle.paper.specs.Slip.{encode, numberOf}
-use Rattle.paper.specs.Scan.{Head, Walk, walk, pageWalk, payloads, present, live}
+use Rattle.paper.specs.Scan.{Head, Walk, walk, pageWalk, payloads, present}
 use Rattle.paper.specs.Pages.{state, startMark, endMark}
 use Rattle.paper.specs.Waiting.{waiting}
 use Rattle.paper.specs.Fifo.{Bytes}
-use Rattle.laws.proofs.Accepted.{Word, four, wide}
 use Rattle.laws.proofs.Parts.{length-part}
 use Rattle.laws.proofs.Ring.{turn, turn-once}
 use Rattle.laws.proofs.Rounding.{round-up-ge}
 use Rattle.laws.proofs.Headers.{header-ge}
 use Rattle.laws.proofs.Looking.{Taken, look-item}
 use Rattle.demand3.specs.Addresses.{presents, waitingHeads}
-use Rattle.demand3.proofs.Bytes.{bytes-take, bytes-drop, put-bytes}
+use Rattle.demand3.proofs.Bytes.{bytes-take, bytes-drop, bytes-replicate, put-bytes}
 use Rattle.demand3.proofs.Replaced.{NoneAccepted, front-of}
 use Rattle.demand3.proofs.Courses.{course-of}
-use Rattle.demand3.proofs.ZeroedScan.{zeros4, HeadOn, head-on, poppedHead, zeroed-walk}
+use Rattle.demand3.proofs.ZeroedScan.{zeros, OfCrc, struckHead, struck-gone, low-zero, HeadOn, head-on, zeroed-walk}
 use Rattle.demand3.proofs.ZeroedHeader.{Heading, zeroing, zeroing-all}
 use Rattle.demand3.proofs.Payloads.{payloads-append}
 use Rattle.demand3.proofs.Addresses.{presents-append, payloads-waiting}
@@ -188,45 +187,46 @@ module _ {g : Geometry} {im : List ℕ} {h : Head} (F : PresentItem g im h) wher
 
   -- ---- its header is stored again with CRC 0
 
-  -- one word and more hold the CRC
-  crc-stored : (j : ℕ) → 0 < j → 4 ≤ j * g .word
-  crc-stored j k = by (I .good .word) (mul-le-mul-right (g .word) k)
-    where
-      by : Word (g .word) → 1 * g .word ≤ j * g .word → 4 ≤ j * g .word
-      by (four e) l = omega arith
-      by (wide e) l = omega arith
+  pub item-zeroed : (j : ℕ) → imageAfter g (before j (writes g (h .place) (encode g 0 (h .len)))) im ≡ put (h .place) (zeros (min 4 (j * g .word))) im
+  item-zeroed = zeroing g im pos (h .place) (h .len) fits heading
 
-  pub item-zeroed : (j : ℕ) → 0 < j → imageAfter g (before j (writes g (h .place) (encode g 0 (h .len)))) im ≡ put (h .place) zeros4 im
-  item-zeroed j k = zeroing g im pos (h .place) (h .len) fits heading j (crc-stored j k)
-
-  pub item-zeroed-all : imageAfter g (writes g (h .place) (encode g 0 (h .len))) im ≡ put (h .place) zeros4 im
+  pub item-zeroed-all : imageAfter g (writes g (h .place) (encode g 0 (h .len))) im ≡ put (h .place) (zeros 4) im
   item-zeroed-all = zeroing-all g im pos (h .place) (h .len) fits heading
 
-  abbrev v : View
-  v = record { first = startMark g im (F .page); inner = put (length front) zeros4 (pageData g im (F .page)); last = endMark g im (F .page) }
-
-  C : Changed g im (put (h .place) zeros4 im) (F .page) v
-  C =
-      let room : length front + 4 ≤ dataSize g = omega (arith, sizes, A .room, header-ge g pos) in
-      subst (λ (x : ℕ). Changed g im (put x zeros4 im) p v) at
-      (inner-changed im (I .good) p item-in (length front) zeros4 v room (put-inner im (I .good) p item-in zeros4 (length front) room))
-
-  module _ (U : NoneAccepted (pageWalk g im (F .page) .refused) (pageWalk g (put (h .place) zeros4 im) (F .page) .heads)) where
+  module _ {i : ℕ} (Z : OfCrc i)
+      (U : NoneAccepted (pageWalk g im (F .page) .refused) (pageWalk g (put (h .place) (zeros i) im) (F .page) .heads)) where
     abbrev jm : List ℕ
-    jm = put (h .place) zeros4 im
+    jm = put (h .place) (zeros i) im
+
+    -- the CRC that is then read
+    abbrev read : ℕ
+    read = numberOf (part (length front) 4 (put (length front) (zeros i) (pageData g im (F .page))))
+
+    gone : present (struckHead read h) ≡ false
+    gone = struck-gone read h (low-zero Z (length front) d (omega (arith, length-append front (P .from), ap length front-is)))
+
+    abbrev v : View
+    v = record { first = startMark g im (F .page); inner = put (length front) (zeros i) (pageData g im (F .page)); last = endMark g im (F .page) }
+
+    C : Changed g im (put (h .place) (zeros i) im) (F .page) v
+    C =
+        let k = Z .few in
+        let room : length front + length (zeros i) ≤ dataSize g = omega (arith, sizes, A .room, header-ge g pos, length-replicate {A = ℕ} i 0) in
+        subst (λ (x : ℕ). Changed g im (put x (zeros i) im) p v) at
+        (inner-changed im (I .good) p item-in (length front) (zeros i) v room (put-inner im (I .good) p item-in (zeros i) (length front) room))
 
     abbrev new : Walk
-    new = record { heads = F .pre ++ (poppedHead h ∷ F .post); refused = pageWalk g im (F .page) .refused; rest = pageWalk g im (F .page) .rest }
+    new = record { heads = F .pre ++ (struckHead read h ∷ F .post); refused = pageWalk g im (F .page) .refused; rest = pageWalk g im (F .page) .rest }
 
-    new-walk : walk g 0 (dataStart g (F .page)) (put (length front) zeros4 (pageData g im (F .page))) ≡ new
+    new-walk : walk g 0 (dataStart g (F .page)) (put (length front) (zeros i) (pageData g im (F .page))) ≡ new
     unfolding pageWalk
-    new-walk = zeroed-walk g pos (dataStart g p) d (F .pre) h (F .post) (F .heads-are) (length front) at
+    new-walk = zeroed-walk g pos Z (dataStart g p) d (F .pre) h (F .post) (F .heads-are) (length front) at
         (subst (λ (w : Walk). NoneAccepted (pageWalk g im p .refused) (w .heads)) (walk-this C) U)
 
-    struck-page : pageWalk g (put (h .place) zeros4 im) (F .page) ≡ new
+    struck-page : pageWalk g (put (h .place) (zeros i) im) (F .page) ≡ new
     struck-page = walk-this C ∙ new-walk
 
-    same-state : (q : ℕ) → q < g .pages → state g (put (h .place) zeros4 im) q ≡ state g im q
+    same-state : (q : ℕ) → q < g .pages → state g (put (h .place) (zeros i) im) q ≡ state g im q
     unfolding state
     same-state = states-same C refl
 
@@ -234,7 +234,7 @@ module _ {g : Geometry} {im : List ℕ} {h : Head} (F : PresentItem g im h) wher
     unfolding state
     not-open q = item-not-empty (ap (λ (w : Walk). w .heads) (open-walk I p item-in q))
 
-    pub struck-inv : Inv g (put (h .place) zeros4 im) (F .old) (F .runs)
+    pub struck-inv : Inv g (put (h .place) (zeros i) im) (F .old) (F .runs)
     unfolding pageWalk
     struck-inv =
         let K = I .pages-ok p item-in in
@@ -246,46 +246,47 @@ module _ {g : Geometry} {im : List ℕ} {h : Head} (F : PresentItem g im h) wher
             clean = subst (λ (w : Walk). CleanRest g (w .rest)) (sym new-walk) (K .clean);
             quiet = λ k. ap (λ (w : Walk). w .refused) new-walk ∙ K .quiet k;
             untouched = λ q. absurd (not-open q);
-            bytes = put-bytes (length front) zeros4 d (lit< tt, (lit< tt, (lit< tt, (lit< tt, tt)))) (K .bytes);
+            bytes = put-bytes (length front) (zeros i) d (bytes-replicate i 0 (lit< tt)) (K .bytes);
           });
         }
 
-    others : (i m : ℕ) → i + m ≤ suc (F .runs) → ((j : ℕ) → i ≤ j → j < i + m → j ≡ F .turns → ⊥)
-        → runHeads g (put (h .place) zeros4 im) (F .old) i m ≡ runHeads g im (F .old) i m
-    others i m l ne =
+    others : (n m : ℕ) → n + m ≤ suc (F .runs) → ((j : ℕ) → n ≤ j → j < n + m → j ≡ F .turns → ⊥)
+        → runHeads g (put (h .place) (zeros i) im) (F .old) n m ≡ runHeads g im (F .old) n m
+    others n m l ne =
         let s = I .shape .run-in in
-        heads-same g jm im o i m (λ j h₁ h₂. ap (λ (w : Walk). presents (w .heads)) (walk-other C (turn g o j) (turn-in I j (omega arith))
+        heads-same g jm im o n m (λ j h₁ h₂. ap (λ (w : Walk). presents (w .heads)) (walk-other C (turn g o j) (turn-in I j (omega arith))
         (λ q. ne j h₁ h₂ (turn-once g o j t (I .shape .old-in) (omega arith) (omega (arith, F .in-run)) (q ∙ sym (F .page-is))))))
 
     -- the list without it
-    pub struck-listed : waitingHeads g (put (h .place) zeros4 im) ≡ item-before ++ item-after
-    unfolding presents present live
+    pub struck-listed : waitingHeads g (put (h .place) (zeros i) im) ≡ item-before ++ item-after
+    unfolding presents
     struck-listed =
         let R : List Head = runHeads g im o 0 t in
         let T : List Head = runHeads g im o (suc t) (b - t) in
         let k = F .in-run in
         let r : runHeads g jm o 0 t ≡ R = others 0 t (omega arith) (λ j h₁ h₂ q. let z : ⊥ = omega arith in z) in
         let u : runHeads g jm o (suc t) (b - t) ≡ T = others (suc t) (b - t) (omega arith) (λ j h₁ h₂ q. let z : ⊥ = omega arith in z) in
-        let y : headsIn g jm p ≡ presents (F .pre ++ (poppedHead h ∷ F .post)) = ap (λ (w : Walk). presents (w .heads)) struck-page in
+        let w : presents (struckHead read h ∷ F .post) ≡ presents (F .post) = rw gone in
+        let y : headsIn g jm p ≡ presents (F .pre ++ (struckHead read h ∷ F .post)) = ap (λ (w : Walk). presents (w .heads)) struck-page in
         parted struck-inv ∙ ap₂ (λ (x z : List Head). x ++ z) r (ap₂ (λ (x z : List Head). x ++ z) y u)
-        ∙ amid R (F .pre) (poppedHead h ∷ F .post) T
+        ∙ amid R (F .pre) (struckHead read h ∷ F .post) T ∙ ap (λ (x : List Head). (R ++ presents (F .pre)) ++ (x ++ T)) w
 
-    pub struck-waits : waiting g (put (h .place) zeros4 im) ≡ payloads item-before ++ payloads item-after
+    pub struck-waits : waiting g (put (h .place) (zeros i) im) ≡ payloads item-before ++ payloads item-after
     struck-waits = sym (payloads-waiting g jm) ∙ ap payloads struck-listed ∙ payloads-append item-before item-after
 
     -- no address is accepted that was not
-    pub struck-places : (q : ℕ) → q < g .pages → (x : Head) → List·Memᴰ x (pageWalk g (put (h .place) zeros4 im) q .heads)
+    pub struck-places : (q : ℕ) → q < g .pages → (x : Head) → List·Memᴰ x (pageWalk g (put (h .place) (zeros i) im) q .heads)
         → (y : Head) × List·Memᴰ y (pageWalk g im q .heads) × (y .place ≡ x .place)
     struck-places q hq x m = by (eqb q p) refl
       where
         Known : List Head → Type 0
         Known hs = (y : Head) × List·Memᴰ y hs × (y .place ≡ x .place)
 
-        same-place : (x ≡ poppedHead h) ⊎ List·Memᴰ x (F .post) → Known (F .pre ++ (h ∷ F .post))
+        same-place : (x ≡ struckHead read h) ⊎ List·Memᴰ x (F .post) → Known (F .pre ++ (h ∷ F .post))
         same-place (inl e) = (h, Memᴰ·append-right (F .pre) (List·Memᴰ·head refl), ap (λ (y : Head). y .place) (sym e))
         same-place (inr e) = (x, Memᴰ·append-right (F .pre) (List·Memᴰ·tail e), refl)
 
-        in-page : List·Memᴰ x (F .pre) ⊎ List·Memᴰ x (poppedHead h ∷ F .post) → Known (F .pre ++ (h ∷ F .post))
+        in-page : List·Memᴰ x (F .pre) ⊎ List·Memᴰ x (struckHead read h ∷ F .post) → Known (F .pre ++ (h ∷ F .post))
         in-page (inl k) = (x, Memᴰ·append-left (h ∷ F .post) k, refl)
         in-page (inr k) = same-place (List·Memᴰ·cases-cons k)
 

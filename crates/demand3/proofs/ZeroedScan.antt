@@ -1,15 +1,18 @@
--- A header whose CRC is made 0: the scan of its page. Assumes nothing.
-use mathlib.Core.Bool.{true}
+-- A header with CRC bytes made 0, its first one and maybe more: the scan of its page. Assumes nothing.
+use mathlib.Core.Bool.{true, false, and-false}
 use mathlib.Core.List.{List, [], _∷_, _++_, List·Memᴰ, Memᴰ·append-left, head-eq-of-cons-eq, tail-eq-of-cons-eq}
 use mathlib.Core.Path.{_≡_, refl, sym, ap, ap₂, _∙_, subst}
-use Prim.Native.Nat.{ℕ, zero, suc, _+_, _-_, _≤_, _<_}
+use Prim.Native.Nat.{ℕ, zero, suc, _+_, _-_, _%_, _≤_, _<_}
 use native.Mathlib.Omega.{arith}
-use lib.ListN.{length, take, drop, length-append, length-drop}
-use lib.Seq.{drop-drop}
+use borrow.Author.Tests.{ne-eqb}
+use lib.ListN.{length, take, drop, replicate, length-append, length-drop, length-replicate}
+use lib.Seq.{length-take-le, drop-at, drop-drop}
 use Rattle.paper.specs.declared.Geometry.{Geometry}
-use Rattle.paper.specs.Chip.{headerSize, put}
+use Rattle.paper.specs.Checksum.{lengthCrc, dataCrc}
+use Rattle.paper.specs.Chip.{headerSize, part, put}
 use Rattle.paper.specs.Slip.{item, look, blank, numberOf}
-use Rattle.paper.specs.Scan.{Head, Walk, onward, walk}
+use Rattle.paper.specs.Scan.{Head, Walk, onward, walk, present, live}
+use Rattle.checksum.proofs.Adjusted.{data-low}
 use Rattle.laws.proofs.Puts.{put-at-end}
 use Rattle.laws.proofs.Headers.{header-ge, header-word}
 use Rattle.laws.proofs.Looking.{look-item, look-bad, item-look}
@@ -18,12 +21,35 @@ use Rattle.demand3.proofs.Headers.{first-used}
 use Rattle.demand3.proofs.Courses.{Course, here, past, over, walk-step, course-of, walk-stops, course-walk}
 use Rattle.demand3.proofs.Replaced.{NoneAccepted, MayReplace, afterThese, Front, front-of}
 
--- a CRC of 0
-abbrev pub zeros4 : List ℕ
-zeros4 = 0 ∷ 0 ∷ 0 ∷ 0 ∷ []
+abbrev pub zeros : ℕ → List ℕ
+zeros i = replicate i 0
 
-abbrev pub poppedHead : Head → Head
-poppedHead h = record { place = h .place; crc = 0; len = h .len; body = h .body }
+-- i of a CRC's bytes, one at least
+pub record OfCrc (i : ℕ) : Type 0 where
+  pub some : 0 < i
+  pub few : i ≤ 4
+
+-- the head with CRC c
+abbrev pub struckHead : ℕ → Head → Head
+struckHead c h = record { place = h .place; crc = c; len = h .len; body = h .body }
+
+-- it is not present where c has low byte 0, for the CRC of no payload has
+pub struck-gone : (c : ℕ) (h : Head) → c % 256 ≡ 0 → present (struckHead c h) ≡ false
+unfolding present
+struck-gone c h e =
+    let n : dataCrc (h .body) ≡ c → ⊥ = λ q. data-low (h .body) .0 (ap (λ (x : ℕ). x % 256) q ∙ e) in
+    rw (ne-eqb (dataCrc (h .body)) c n) (and-false (live (struckHead c h)))
+
+first-zero : (i : ℕ) → 0 < i → (r : List ℕ) → zeros i ++ r ≡ 0 ∷ (zeros (i - 1) ++ r)
+first-zero zero h r = let z : ⊥ = omega arith in absurd z
+first-zero (suc i) h r = let z : suc i - 1 ≡ i = omega arith in rw z
+
+-- the CRC that is read where its first bytes were made 0 has low byte 0
+pub low-zero : {i : ℕ} → OfCrc i → (k : ℕ) (d : List ℕ) → k ≤ length d → numberOf (part k 4 (put k (zeros i) d)) % 256 ≡ 0
+unfolding put numberOf
+low-zero {i} Z k d h =
+    let r : List ℕ = drop (k + length (zeros i)) d in
+    rw (drop-at (take k d) (zeros i ++ r) k (length-take-le k d h), first-zero i (Z .some) r) (omega arith)
 
 -- a head on a course: the course comes to it, the look accepts it, the course goes on
 pub record HeadOn (g : Geometry) (a : ℕ) (d : List ℕ) (pre : List Head) (h : Head) (post : List Head) (rs r : List ℕ) : Type 0 where
@@ -72,30 +98,37 @@ module _ (g : Geometry) (pos : 0 < g .word) where
         place-is = omega (arith, F .place-is, length-drop (itemSize g n) d, look-item g d l .room);
       })
 
-  -- ---- the bytes from a header on, with its CRC made 0
+-- ---- the bytes from a header on, the first i of them made 0
 
+module _ (g : Geometry) (pos : 0 < g .word) {i : ℕ} (Z : OfCrc i) where
   abbrev zeroed : List ℕ → List ℕ
-  zeroed d = zeros4 ++ drop 4 d
+  zeroed d = zeros i ++ drop i d
+
+  zeros-length : length (zeros i) ≡ i
+  zeros-length = length-replicate {A = ℕ} i 0
 
   drop-zeroed : (m : ℕ) (d : List ℕ) → 4 ≤ m → drop m (zeroed d) ≡ drop m d
   drop-zeroed m d h =
-      let z : 4 + (m - 4) ≡ m = omega arith in
-      ap (λ (k : ℕ). drop k (zeroed d)) (sym z) ∙ sym (drop-drop (m - 4) 4 (zeroed d)) ∙ drop-drop (m - 4) 4 d ∙ ap (λ (k : ℕ). drop k d) z
+      let z : i + (m - i) ≡ m = omega (arith, Z .few) in
+      ap (λ (k : ℕ). drop k (zeroed d)) (sym z) ∙ sym (drop-drop (m - i) i (zeroed d)) ∙ ap (drop (m - i)) (drop-at (zeros i) (drop i d) i zeros-length)
+      ∙ drop-drop (m - i) i d ∙ ap (λ (k : ℕ). drop k d) z
 
   length-zeroed : (d : List ℕ) → 4 ≤ length d → length (zeroed d) ≡ length d
-  length-zeroed d h = omega (arith, length-drop 4 d)
+  length-zeroed d h = omega (arith, Z .few, length-append (zeros i) (drop i d), zeros-length, length-drop i d)
 
-  look-zeroed : (d : List ℕ) {c n : ℕ} {body : List ℕ} → look g d ≡ item c n body → look g (zeroed d) ≡ item 0 n body
-  unfolding numberOf
+  look-zeroed : (d : List ℕ) {c n : ℕ} {body : List ℕ} → look g d ≡ item c n body
+      → look g (zeroed d) ≡ item (numberOf (take 4 (zeroed d))) n body
   look-zeroed d {c} {n} {body} e =
       let A = look-item g d e in
       let k = header-ge g pos in
+      let f = first-used (headerSize g) 0 (zeros (i - 1) ++ drop i d) (omega arith) (λ q. let z : ⊥ = omega arith in z) in
       item-look g (zeroed d) (record {
         room = rw (length-zeroed d (omega (arith, A .room))) (A .room);
-        used = first-used (headerSize g) 0 (0 ∷ 0 ∷ 0 ∷ drop 4 d) (omega arith) (λ q. let z : ⊥ = omega arith in z);
-        check = A .check ∙ ap (λ (x : List ℕ). numberOf (take 2 x)) (sym (drop-zeroed 6 d (omega arith)));
+        used = rw (first-zero i (Z .some) (drop i d)) f;
+        check = ap (λ (x : List ℕ). lengthCrc (take 2 x)) (drop-zeroed 4 d (omega arith)) ∙ A .check
+            ∙ ap (λ (x : List ℕ). numberOf (take 2 x)) (sym (drop-zeroed 6 d (omega arith)));
         crc-is = refl;
-        len-is = A .len-is;
+        len-is = ap (λ (x : List ℕ). numberOf (take 2 x)) (drop-zeroed 4 d (omega arith)) ∙ A .len-is;
         body-is = ap (take n) (drop-zeroed (headerSize g) d (omega arith)) ∙ A .body-is;
       })
 
@@ -105,7 +138,9 @@ module _ (g : Geometry) (pos : 0 < g .word) where
     where
       by : (k : ℕ) → blank (take k (zeroed d)) ≡ true → blank (take k d) ≡ true
       by zero e = refl
-      by (suc k) e = let z : _≡_ {A = ℕ} 0 1 = cc in absurd (omega arith)
+      by (suc k) e =
+          let f = rw (first-zero i (Z .some) (drop i d)) at e in
+          let z : _≡_ {A = ℕ} 0 1 = cc in absurd (omega arith)
 
   -- ---- the scan
 
@@ -114,36 +149,46 @@ module _ (g : Geometry) (pos : 0 < g .word) where
     W = walk g 0 a d
 
     P : HeadOn g a d pre h post (W .refused) (W .rest)
-    P = head-on (course-of g pos a d) pre h post e
+    P = head-on g pos (course-of g pos a d) pre h post e
 
     F : Front g a d pre (P .rs₁) (P .from)
     F = front-of g pos (P .first)
 
-    four : 4 ≤ length (P .from)
-    four = omega (arith, look-item g (P .from) (P .seen) .room, header-ge g pos)
+    room : 4 ≤ length (P .from)
+    room = omega (arith, look-item g (P .from) (P .seen) .room, header-ge g pos)
 
     at : a + length (F .front) ≡ h .place
     at = omega (arith, P .place-is, length-append (F .front) (P .from), ap length (F .split))
 
     -- from the header on
-    tail-walk : walk g 0 (h .place) (zeroed (P .from)) ≡ record { heads = poppedHead h ∷ post; refused = P .rs₂; rest = W .rest }
+    tail-walk : walk g 0 (h .place) (zeroed (P .from))
+        ≡ record { heads = struckHead (numberOf (take 4 (zeroed (P .from)))) h ∷ post; refused = P .rs₂; rest = W .rest }
     unfolding onward
     tail-walk =
         let m : ℕ = itemSize g (h .len) in
         let l = course-walk g pos (P .later) (walk-stops g pos a d) in
         let z = drop-zeroed m (P .from) (omega (arith, header-ge g pos)) in
+        let x : Head = struckHead (numberOf (take 4 (zeroed (P .from)))) h in
         walk-step g pos (h .place) (zeroed (P .from)) ∙ rw (look-zeroed (P .from) (P .seen))
-        (ap (λ (w : Walk). record { heads = poppedHead h ∷ w .heads; refused = w .refused; rest = w .rest }) (ap (walk g 0 (h .place + m)) z ∙ l))
+        (ap (λ (w : Walk). record { heads = x ∷ w .heads; refused = w .refused; rest = w .rest }) (ap (walk g 0 (h .place + m)) z ∙ l))
 
-    pub zeroed-walk : (i : ℕ) → a + i ≡ h .place → NoneAccepted (walk g 0 a d .refused) (walk g 0 a (put i zeros4 d) .heads)
-        → walk g 0 a (put i zeros4 d) ≡ record { heads = pre ++ (poppedHead h ∷ post); refused = walk g 0 a d .refused; rest = walk g 0 a d .rest }
-    zeroed-walk i ip U =
-        let li : i ≡ length (F .front) = omega (arith, at) in
-        let s : put i zeros4 d ≡ F .front ++ zeroed (P .from) =
-        ap₂ (λ (x : ℕ) (y : List ℕ). put x zeros4 y) li (F .split) ∙ put-at-end (F .front) zeros4 (P .from) in
-        rw s (F .again (zeroed (P .from)) (zeroed-replaces (P .from) four) (less (rw s at U))
-        ∙ ap (λ (x : ℕ). afterThese pre (P .rs₁) (walk g 0 x (zeroed (P .from)))) at ∙ ap (afterThese pre (P .rs₁)) tail-walk
-        ∙ ap (λ (x : List ℕ). record { heads = pre ++ (poppedHead h ∷ post); refused = x; rest = W .rest }) (sym (P .refused-are)))
+    -- its CRC is what is then read at its place
+    pub zeroed-walk : (k : ℕ) → a + k ≡ h .place → NoneAccepted (walk g 0 a d .refused) (walk g 0 a (put k (zeros i) d) .heads)
+        → walk g 0 a (put k (zeros i) d) ≡ record {
+          heads = pre ++ (struckHead (numberOf (part k 4 (put k (zeros i) d))) h ∷ post);
+          refused = walk g 0 a d .refused;
+          rest = walk g 0 a d .rest;
+        }
+    zeroed-walk k kp U =
+        let y : List ℕ = zeroed (P .from) in
+        let lk : k ≡ length (F .front) = omega (arith, at) in
+        let s : put k (zeros i) d ≡ F .front ++ y =
+        ap₂ (λ (x : ℕ) (l : List ℕ). put x (zeros i) l) lk (F .split) ∙ put-at-end (F .front) (zeros i) (P .from)
+        ∙ ap (λ (x : ℕ). F .front ++ (zeros i ++ drop x (P .from))) zeros-length in
+        let c : part k 4 (F .front ++ y) ≡ take 4 y = ap (take 4) (drop-at (F .front) y k (sym lk)) in
+        rw (s, c) (F .again y (zeroed-replaces (P .from) room) (less (rw s at U))
+        ∙ ap (λ (x : ℕ). afterThese pre (P .rs₁) (walk g 0 x y)) at ∙ ap (afterThese pre (P .rs₁)) tail-walk
+        ∙ ap (λ (x : List ℕ). record { heads = pre ++ (struckHead (numberOf (take 4 y)) h ∷ post); refused = x; rest = W .rest }) (sym (P .refused-are)))
       where
         less : {hs : List Head} → NoneAccepted (W .refused) hs → NoneAccepted (P .rs₁) hs
         less U₀ x m n = U₀ x m (subst (λ (q : List ℕ). List·Memᴰ (x .place) q) (sym (P .refused-are)) (Memᴰ·append-left (P .rs₂) n))
