@@ -17,7 +17,7 @@ use Rattle.paper.specs.Slip.{blank, bytesOf, numberOf, encode, Look, stop, bad,
 use Rattle.paper.specs.Scan.{Walk, onward, walk}
 use Rattle.checksum.proofs.Adjusted.{length-not-ones, length-lt}
 use Rattle.laws.proofs.Headers.{header-ge, length-encode}
-use Rattle.laws.proofs.Looking.{look-stop, look-bad, look-item}
+use Rattle.laws.proofs.Looking.{look-stop, look-item}
 use Rattle.laws.proofs.Parts.{part-take, take-append}
 use Rattle.laws.proofs.Sides.{Side, below, above, side}
 use Rattle.demand3.proofs.Blank.{and-true, blank-append, blank-drop, blank-is}
@@ -48,7 +48,8 @@ ones-unchecked x z h l e k =
     let i : ℕ = 6 - length x in
     let y : 6 ≡ length x + i = omega arith in
     let q : part 6 2 (x ++ z) ≡ replicate 2 255 =
-    ap (λ (s : ℕ). take 2 (drop s (x ++ z))) y ∙ ap (take 2) (drop-append-add x z i) ∙ blank-is 2 (drop i z) (blank-drop i z e) (omega (arith, length-drop i z)) in
+    ap (λ (s : ℕ). take 2 (drop s (x ++ z))) y ∙ ap (take 2) (drop-append-add x z i)
+    ∙ blank-is 2 (drop i z) (blank-drop i z e) (omega (arith, length-drop i z)) in
     length-not-ones (part 4 2 (x ++ z)) (k ∙ ap numberOf q)
 
 module _ (g : Geometry) (pos : 0 < g .word) where
