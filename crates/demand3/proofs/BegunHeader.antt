@@ -31,7 +31,7 @@ pub record PassedBy (g : Geometry) (a m : ℕ) (w : Walk) : Type 0 where
   pub refuses : (x : ℕ) → List·Memᴰ x (w .refused) → (a ≤ x) × (x < a + m)
   pub clean : CleanRest g (w .rest)
 
--- m bytes of the header of n bytes; where only the eighth is missing, it is not FF
+-- m bytes of the header of a slip of length n: where only the eighth is missing, the high byte of the length CRC, it is not FF
 abbrev pub LastTells : ℕ → ℕ → Type 0
 LastTells m n = m ≡ 7 → lengthCrc (bytesOf 2 n) / 256 ≡ 255 → ⊥
 
