@@ -15,16 +15,16 @@ use Rattle.paper.specs.Chip.{roundUp, headerSize, put, part, Event, imageAfter,
 use Rattle.paper.specs.Scan.{Head, Walk, pageWalk, payloads}
 use Rattle.paper.specs.Push.{itemAt}
 use Rattle.paper.specs.Waiting.{waiting}
-use Rattle.laws.proofs.Accepted.{Word, four, wide}
 use Rattle.laws.proofs.Events.{before-all}
 use Rattle.laws.proofs.Puts.{put-nil}
 use Rattle.laws.proofs.Sides.{Side, below, above, side}
-use Rattle.demand3.proofs.Sizes.{wide-header, four-header}
+use Rattle.demand3.proofs.Sizes.{below-header, never-seven}
 use Rattle.demand3.proofs.Changed.{walk-other}
 use Rattle.demand3.proofs.Invariant.{Inv}
 use Rattle.demand3.proofs.FreeSpot.{Site, current, scanned, spotOf, Regrown, grow-inv, grow-list, grow-walk}
-use Rattle.demand3.proofs.Item.{itemBytes, itemWords, item-size, count-item, written, one-word}
-use Rattle.demand3.proofs.Written.{Writable, withWords, Clear, after-words, tail-now, behind, newHead, item-regrown, stored-is, half-regrown}
+use Rattle.demand3.proofs.Item.{itemBytes, itemWords, count-item, written, few-words}
+use Rattle.demand3.proofs.BegunHeader.{LastTells}
+use Rattle.demand3.proofs.Written.{Writable, withWords, Clear, after-words, tail-now, behind, newHead, item-regrown, stored-is, begun-regrown}
 use Rattle.demand3.proofs.Body.{whole-body, slip-payloads, new-payloads, payloads-slip, body-stays}
 
 -- the image jm after j words of an item at the free spot
@@ -68,7 +68,7 @@ module _ {g : Geometry} {im : List ℕ} {S : Site g im} {slip : List ℕ} (F : W
     inv = S .inv;
     list = inl refl;
     early = λ k. refl;
-    all = λ k. let z : ⊥ = omega (arith, one-word g pos slip) in absurd z;
+    all = λ k. let z : ⊥ = omega (arith, few-words g pos slip 0 (omega (arith, zero-mul (g .word)))) in absurd z;
     heads = λ p hp h m. inr m;
   }
 
@@ -109,43 +109,33 @@ module _ {g : Geometry} {im : List ℕ} {S : Site g im} {slip : List ℕ} (F : W
         on (below l) = either (new-payloads F j hj h (rw (stored-is F j hj h) at (P l)))
         on (above l) = either (inr (slip-payloads F j hj h (whole-body F j hj h (omega arith))))
 
-  -- words of 4: half the header
-  module _ (w4 : g .word ≡ 4) where
-    two-words : Side 1 (itemWords g slip) → 1 < itemWords g slip
-    two-words (below l) = l
-    two-words (above l) =
-        let z : itemWords g slip * g .word ≤ 1 * g .word = mul-le-mul-right (g .word) l in
-        let k : ⊥ = omega (arith, item-size g pos slip, four-header g w4) in absurd k
+  none-new : {x : Head} {P Q : Type 0} → List·Memᴰ x [] ⊎ Q → P ⊎ Q
+  none-new (inl m) = absurd (List·Memᴰ·not-nil m)
+  none-new (inr m) = inr m
 
-    none-new : {x : Head} {P Q : Type 0} → List·Memᴰ x [] ⊎ Q → P ⊎ Q
-    none-new (inl m) = absurd (List·Memᴰ·not-nil m)
-    none-new (inr m) = inr m
+  -- fewer than 8 bytes of the header
+  begun-header : (j : ℕ) → j ≤ itemWords g slip → j * g .word < 8 → LastTells (j * g .word) (length slip) → 0 < j → Clear S (withWords S slip j)
+      → Added S slip j (withWords S slip j)
+  unfolding payloads
+  begun-header j hj h t j0 U =
+      let R = begun-regrown F j hj h t j0 U in
+      record {
+        inv = grow-inv R;
+        list = inl (grow-list R ∙ append-nil (waiting g im));
+        early = λ k. grow-list R ∙ append-nil (waiting g im);
+        all = λ k. let z : ⊥ = omega (arith, few-words g pos slip j h) in absurd z;
+        heads = λ p hp x m. none-new (new-heads R p hp x m);
+      }
 
-    half-header : Clear S (withWords S slip 1) → Added S slip 1 (withWords S slip 1)
-    unfolding payloads
-    half-header U =
-        let R = half-regrown F w4 U in
-        record {
-          inv = grow-inv R;
-          list = inl (grow-list R ∙ append-nil (waiting g im));
-          early = λ k. grow-list R ∙ append-nil (waiting g im);
-          all = λ k. let z : ⊥ = omega (arith, two-words (side 1 (itemWords g slip))) in absurd z;
-          heads = λ p hp x m. none-new (new-heads R p hp x m);
-        }
-
-  some-words : (j : ℕ) → j ≤ itemWords g slip → Side 0 j → Side (j * g .word) (headerSize g) → Word (g .word) → Clear S (withWords S slip j)
+  some-words : (j : ℕ) → j ≤ itemWords g slip → Side 0 j → Side (j * g .word) (headerSize g) → Clear S (withWords S slip j)
       → (headerSize g ≤ j * g .word → j < itemWords g slip → PassesAsSlip S slip (withWords S slip j)) → Added S slip j (withWords S slip j)
   unfolding written
-  some-words j hj (above l) s w U P =
+  some-words j hj (above l) s U P =
       let z : j ≡ 0 = omega arith in
       let y : withWords S slip 0 ≡ im = ap (λ (x : ℕ). put (spotOf S) (take x (itemBytes g slip)) im) (zero-mul (g .word)) ∙ put-nil (spotOf S) im in
       rw z (subst (Added S slip 0) (sym y) no-word)
-  some-words j hj (below l) (above h) w U P = with-header j hj h l U (P h)
-  some-words j hj (below l) (below h) (wide k) U P = let z : ⊥ = omega (arith, wide-header g k, mul-le-mul-right (g .word) l) in absurd z
-  some-words j hj (below l) (below h) (four k) U P =
-      let z : j * 4 < 8 = subst (λ (x : ℕ). j * x < 8) k (subst (λ (x : ℕ). j * g .word < x) (four-header g k) h) in
-      let y : 1 ≡ j = omega arith in
-      subst (λ (x : ℕ). Added S slip x (withWords S slip x)) y (half-header k (rw (← y) at U))
+  some-words j hj (below l) (above h) U P = with-header j hj h l U (P h)
+  some-words j hj (below l) (below h) U P = begun-header j hj (below-header g pos j h) (λ e. absurd (never-seven (S .inv .good .word) j e)) l U
 
   -- after j words; where the header is whole and the payload is not, what stands in its place passes only if it is the slip
   pub adding : (j : ℕ) → Clear S (imageAfter g (before j (itemAt g (spotOf S) slip)) im)
@@ -169,12 +159,12 @@ module _ {g : Geometry} {im : List ℕ} {S : Site g im} {slip : List ℕ} (F : W
       by : Side j (itemWords g slip) → Added S slip j (imageAfter g (before j it) im)
       by (below l) =
           let q = after-words F j (omega arith) in
-          rw q (some-words j (omega arith) (side 0 j) (side (j * g .word) (headerSize g)) (S .inv .good .word) (rw q at U) (rw q at P))
+          rw q (some-words j (omega arith) (side 0 j) (side (j * g .word) (headerSize g)) (rw q at U) (rw q at P))
       by (above l) =
           let q : imageAfter g (before j it) im ≡ withWords S slip n =
           ap (λ (x : List Event). imageAfter g x im) (whole j l ∙ sym (whole n (omega arith))) ∙ after-words F n (omega arith) in
           let none-left : n < n → PassesAsSlip S slip (withWords S slip n) = λ k. let z : ⊥ = omega arith in absurd z in
-          let A = some-words n (omega arith) (side 0 n) (side (n * g .word) (headerSize g)) (S .inv .good .word) (rw q at U) (λ h. none-left) in
+          let A = some-words n (omega arith) (side 0 n) (side (n * g .word) (headerSize g)) (rw q at U) (λ h. none-left) in
           let w : n * g .word ≤ j * g .word = mul-le-mul-right (g .word) l in
           rw q (record {
             inv = A .inv;

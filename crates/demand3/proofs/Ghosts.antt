@@ -13,7 +13,7 @@ use Rattle.paper.specs.Chip.{Event, store, erase, copy, imageAfter, pageStart, 
 use Rattle.paper.specs.Scan.{Head, Walk, pageWalk}
 use Rattle.paper.specs.Pages.{allPages}
 use Rattle.paper.specs.Fifo.{Ghost, kept, outside, refusals, Accepts}
-use Rattle.laws.proofs.Accepted.{Laid, Word, four, wide}
+use Rattle.laws.proofs.Accepted.{Laid}
 use Rattle.laws.proofs.Places.{page-below}
 use Rattle.laws.proofs.Ring.{all-pages}
 use Rattle.laws.proofs.Sides.{Side, below, above, side}
@@ -151,15 +151,15 @@ pub unmet : {g : Geometry} (im : List ℕ) → Laid g (length im) → (gh : Ghos
     → (fs : List Event) (p : ℕ) → p < g .pages
     → FromBefore g im p es → Avoids p fs → StayRefused g im gh (es ++ fs)
     → NoneAccepted (pageWalk g (imageAfter g es im) p .refused) (pageWalk g (imageAfter g (es ++ fs) im) p .heads)
-unmet {g} im G gh es I fs p hp O A F h m k = by (G .word) O
+unmet {g} im G gh es I fs p hp O A F h m k = by (side (g .word) 8) O
   where
     nil : pageWalk g (imageAfter g es im) p .refused ≡ [] → ⊥
     nil q = List·Memᴰ·not-nil (subst (λ (l : List ℕ). List·Memᴰ (h .place) l) q k)
 
-    by : Word (g .word) → FromBefore g im p es → ⊥
-    by (wide q) O = nil (quiet-walk I p hp q)
-    by (four q) (inl r) = nil r
-    by (four q) (inr r) =
+    by : Side (g .word) 8 → FromBefore g im p es → ⊥
+    by (above q) O = nil (quiet-walk I p hp q)
+    by (below q) (inl r) = nil r
+    by (below q) (inr r) =
         let k₁ : List·Memᴰ (h .place) (pageWalk g im p .refused) = subst (λ (w : Walk). List·Memᴰ (h .place) (w .refused)) (r .1) k in
         let k₂ = Memᴰ·append-left (gh .refusedBefore) (refusals-in g im (allPages g) p (h .place) (all-pages g p hp) k₁) in
-        F (omega arith) p hp h m (kept-in im G p hp (h .place) (refusedAt k₁) (es ++ fs) _ (avoid-append p es fs (r .0) A) k₂)
+        F q p hp h m (kept-in im G p hp (h .place) (refusedAt k₁) (es ++ fs) _ (avoid-append p es fs (r .0) A) k₂)

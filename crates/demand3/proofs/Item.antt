@@ -89,14 +89,15 @@ module _ (g : Geometry) (pos : 0 < g .word) (slip : List ℕ) where
   unfolding written
   length-written j h = length-take-le (j * g .word) (itemBytes g slip) (omega (arith, within-item j h, length-item))
 
-  pub one-word : 1 ≤ itemWords g slip
-  one-word = by (side 0 (itemWords g slip))
+  -- fewer than 8 bytes are less than the item
+  pub few-words : (j : ℕ) → j * g .word < 8 → j < itemWords g slip
+  few-words j h = by (side j (itemWords g slip))
     where
-      by : Side 0 (itemWords g slip) → 1 ≤ itemWords g slip
+      by : Side j (itemWords g slip) → j < itemWords g slip
       by (below l) = l
       by (above l) =
-          let y : itemWords g slip * g .word ≤ 0 * g .word = mul-le-mul-right (g .word) l in
-          let k : ⊥ = omega (arith, item-size, header-ge g pos) in absurd k
+          let k : ⊥ = omega (arith, mul-le-mul-right (g .word) l, item-size, header-ge g pos) in
+          absurd k
 
 pub avoid-item : (g : Geometry) (q a : ℕ) (slip : List ℕ) → Avoids q (itemAt g a slip)
 unfolding itemAt

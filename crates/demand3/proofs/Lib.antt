@@ -21,6 +21,7 @@ pub mod ListedHeads
 pub mod Listed
 pub mod Changed
 pub mod Invariant
+pub mod BegunHeader
 pub mod Marking
 pub mod Erasing
 pub mod ErasedRange

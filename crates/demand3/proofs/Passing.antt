@@ -3,7 +3,7 @@ use mathlib.Core.Bool.{Bool, true, false, cond}
 use mathlib.Core.List.{List, [], _∷_, _++_, List·Memᴰ, List·Memᴰ·head, List·Memᴰ·cases-cons, List·Memᴰ·not-nil}
 use mathlib.Core.Logic.{⊎-elim}
 use mathlib.Core.Path.{_≡_, refl, sym, ap, ap₂, _∙_, subst}
-use Prim.Native.Nat.{ℕ, _+_, _-_, _*_, _≤_, _<_}
+use Prim.Native.Nat.{ℕ, suc, _+_, _-_, _*_, _≤_, _<_}
 use native.Mathlib.Nat.{mul-le-mul-right}
 use native.Mathlib.Omega.{arith}
 use borrow.Author.Tests.{ltb-true, lt-ltb}
@@ -16,16 +16,15 @@ use Rattle.paper.specs.Slip.{encode}
 use Rattle.paper.specs.Push.{at, tooBig, spotFor, itemAt, Full}
 use Rattle.paper.specs.Calls.{Call, pushes, peeks, pops, fits, spaces, erasesAll}
 use Rattle.paper.specs.Fifo.{Power, whole, cutAfter, Counted, slipOf, eventsOf, imageNext, headerPlan, headerAt, Ghost, Bytes, NoPassing}
-use Rattle.laws.proofs.Accepted.{Word, four, wide}
 use Rattle.laws.proofs.Events.{image-append, before-more}
 use Rattle.laws.proofs.Sides.{Side, below, above, side}
 use Rattle.demand3.specs.Passing.{PassingCounted, SameCounted}
-use Rattle.demand3.proofs.Sizes.{wide-header, four-header}
+use Rattle.demand3.proofs.Sizes.{below-header, never-seven}
 use Rattle.demand3.proofs.Words.{words-whole}
 use Rattle.demand3.proofs.Invariant.{Inv}
 use Rattle.demand3.proofs.FreeSpot.{spotOf}
-use Rattle.demand3.proofs.Item.{one-word}
-use Rattle.demand3.proofs.Written.{after-words, half-unread}
+use Rattle.demand3.proofs.Item.{itemWords, few-words}
+use Rattle.demand3.proofs.Written.{after-words, begun-no-header}
 use Rattle.demand3.proofs.SpotReady.{SpotReady}
 use Rattle.demand3.proofs.SpotSearch.{Spotted, isFull, isAt, spotted-for}
 use Rattle.demand3.proofs.Push.{small-enough, W, header-whole, pl}
@@ -54,10 +53,6 @@ header-count : (g : Geometry) → 0 < g .word → wordsFor (g .word) (headerSize
 unfolding headerSize roundUp
 header-count g pos = ap (λ (x : ℕ). x * g .word) (words-whole (g .word) (wordsFor (g .word) 8) pos)
 
-four-words : (g : Geometry) → g .word ≡ 4 → wordsFor (g .word) (headerSize g) ≡ 2
-unfolding wordsFor
-four-words g e = rw (four-header g e, e)
-
 module _ {g : Geometry} {im : List ℕ} {o b : ℕ} (I : Inv g im o b) (gh : Ghost) (slip : List ℕ) (hb : Bytes slip) (t : tooBig g (length slip) ≡ false)
     {es : List Event} {a₀ : ℕ} (R : SpotReady g im (length slip) false es a₀) (q : spotFor g im (length slip) false ≡ plan es (gives (at a₀)))
     (N : Full g im (length slip) → ⊥) where
@@ -85,31 +80,34 @@ module _ {g : Geometry} {im : List ℕ} {o b : ℕ} (I : Inv g im o b) (gh : Gho
       let r = one-in (ltb (storeCount es + n) k) x a₀ (subst (λ (l : List ℕ). List·Memᴰ x l) (begins k n) m) in
       (ltb-true (storeCount es + n) k (r .0), r .1)
 
-  image : (k j : ℕ) → storeCount es ≤ k → k - storeCount es ≡ j
-      → imageNext g im (pushes slip false) (cutAfter k) ≡ imageAfter g (es ++ before j (itemAt g (spotOf (R .site)) slip)) im
+  image : (k : ℕ) → storeCount es ≤ k
+      → imageNext g im (pushes slip false) (cutAfter k) ≡ imageAfter g (es ++ before (k - storeCount es) (itemAt g (spotOf (R .site)) slip)) im
   unfolding imageNext eventsOf
-  image k j l e = rw (pl I gh slip hb t R q N, before-more k es it l, e)
+  image k l = rw (pl I gh slip hb t R q N, before-more k es it l)
 
   all-read : (k : ℕ) → storeCount es + (wordsFor (g .word) (headerSize g) - 1) < k → Reads k
   all-read k h =
       let j : ℕ = k - storeCount es in
       let l : wordsFor (g .word) (headerSize g) * g .word ≤ j * g .word = mul-le-mul-right (g .word) (omega arith) in
-      ap₂ (λ (x : ℕ) (jm : List ℕ). part x (headerSize g) jm) (R .at-spot) (image k j (omega arith) refl)
+      ap₂ (λ (x : ℕ) (jm : List ℕ). part x (headerSize g) jm) (R .at-spot) (image k (omega arith))
       ∙ header-whole I gh slip hb t R j (omega (arith, header-count g pos))
 
   read-all : (k : ℕ) → storeCount es + 0 < k → Reads k → storeCount es + (wordsFor (g .word) (headerSize g) - 1) < k
-  read-all k h e = by (I .good .word) (side 1 (k - storeCount es))
+  read-all k h e = by (side (k - storeCount es) (wordsFor (g .word) (headerSize g)))
     where
-      by : Word (g .word) → Side 1 (k - storeCount es) → storeCount es + more < k
-      by (wide w) s =
-          let z : headerSize g ≡ 1 * g .word = omega (arith, wide-header g w) in
-          omega (arith, ap (wordsFor (g .word)) z, words-whole (g .word) 1 pos)
-      by (four w) (below l) = omega (arith, four-words g w)
-      by (four w) (above l) =
+      j : ℕ
+      j = k - storeCount es
+
+      by : Side (k - storeCount es) (wordsFor (g .word) (headerSize g)) → storeCount es + more < k
+      by (above l) = omega arith
+      by (below l) =
           let F = W I gh slip hb t R in
-          let one : k - storeCount es ≡ 1 = omega arith in
-          let z = image k 1 (omega arith) one ∙ image-append g es (before 1 it) im ∙ after-words F 1 (one-word g pos slip) in
-          absurd (half-unread F w (sym (ap₂ (λ (x : ℕ) (jm : List ℕ). part x (headerSize g) jm) (R .at-spot) z) ∙ e))
+          let s : suc j * g .word ≤ wordsFor (g .word) (headerSize g) * g .word = mul-le-mul-right (g .word) l in
+          let f : j * g .word < 8 = below-header g pos j (omega (arith, header-count g pos)) in
+          let hj : j ≤ itemWords g slip = omega (arith, few-words g pos slip j f) in
+          let z = image k (omega arith) ∙ image-append g es (before j it) im ∙ after-words F j hj in
+          absurd (begun-no-header F j hj f (λ q. absurd (never-seven (I .good .word) j q))
+          (sym (ap₂ (λ (x : ℕ) (jm : List ℕ). part x (headerSize g) jm) (R .at-spot) z) ∙ e))
 
   same-at : (w : Power) → Same g im (pushes slip false) w
   same-at whole = ((λ P. tt), (λ P. tt))

@@ -1,11 +1,13 @@
 -- The size of a header and of an item. Assumes nothing.
-use mathlib.Core.Path.{_≡_, ap, _∙_}
-use Prim.Native.Nat.{ℕ, _+_, _-_, _*_, _/_, _≤_, _<_}
-use native.Mathlib.Nat.{div-eq-of-lt-le}
+use mathlib.Core.Path.{_≡_, subst}
+use Prim.Native.Nat.{ℕ, _+_, _*_, _≤_, _<_}
+use native.Mathlib.Nat.{mul-le-mul-right}
 use native.Mathlib.Omega.{arith}
 use Rattle.paper.specs.declared.Geometry.{Geometry}
-use Rattle.paper.specs.Chip.{roundUp, roundDown, wordsFor, headerSize}
-use Rattle.laws.proofs.Rounding.{round-down-le}
+use Rattle.paper.specs.Chip.{roundUp, roundDown, headerSize}
+use Rattle.laws.proofs.Accepted.{Word, four, wide}
+use Rattle.laws.proofs.Sides.{Side, below, above, side}
+use Rattle.laws.proofs.Rounding.{round-down-le, round-up-fits}
 use Rattle.laws.proofs.Headers.{header-behind}
 
 -- an item of n bytes takes its header and its rounded payload
@@ -16,13 +18,22 @@ itemSize g n = headerSize g + roundUp (g .word) n
 pub serves-room : (g : Geometry) (r n : ℕ) → 0 < g .word → headerSize g + n ≤ roundDown (g .word) r → headerSize g + roundUp (g .word) n ≤ r
 serves-room g r n h k = omega (arith, header-behind g h r n k, round-down-le (g .word) r)
 
--- words of 8 and more hold a header
-pub wide-header : (g : Geometry) → 8 ≤ g .word → headerSize g ≡ g .word
-unfolding headerSize roundUp wordsFor
-wide-header g h =
-    let z : (8 + (g .word - 1)) / g .word ≡ 1 = div-eq-of-lt-le {k = 1} (g .word) (omega arith) (omega arith) in
-    ap (λ (x : ℕ). x * g .word) z ∙ omega arith
+-- whole words that are less than a header are less than its 8 bytes
+pub below-header : (g : Geometry) → 0 < g .word → (j : ℕ) → j * g .word < headerSize g → j * g .word < 8
+unfolding headerSize
+below-header g pos j h = by (side (j * g .word) 8)
+  where
+    by : Side (j * g .word) 8 → j * g .word < 8
+    by (below l) = l
+    by (above l) = let z : ⊥ = omega (arith, round-up-fits (g .word) 8 j pos l) in absurd z
 
-pub four-header : (g : Geometry) → g .word ≡ 4 → headerSize g ≡ 8
-unfolding headerSize roundUp wordsFor
-four-header g e = rw e
+-- of the words that the check accepts, no number is 7 bytes
+pub never-seven : {w : ℕ} → Word w → (j : ℕ) → j * w ≡ 7 → ⊥
+never-seven (four e) j h =
+    let z : j * 4 ≡ 7 = subst (λ (x : ℕ). j * x ≡ 7) e h in
+    omega arith
+never-seven {w} (wide l) j h = by (side 0 j)
+  where
+    by : Side 0 j → ⊥
+    by (below k) = omega (arith, mul-le-mul-right w k)
+    by (above k) = omega (arith, mul-le-mul-right w k)

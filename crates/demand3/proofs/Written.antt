@@ -2,16 +2,17 @@
 use mathlib.Core.Bool.{true}
 use mathlib.Core.List.{List, [], _∷_, _++_, append-assoc}
 use mathlib.Core.Logic.{inr}
-use mathlib.Core.Path.{_≡_, refl, sym, ap, _∙_}
+use mathlib.Core.Path.{_≡_, refl, sym, ap, ap₂, _∙_, subst}
 use Prim.Native.Nat.{ℕ, _+_, _-_, _*_, _≤_, _<_}
+use native.Mathlib.Nat.{mul-le-mul-right}
 use native.Mathlib.Omega.{arith}
-use lib.ListN.{length, take, drop, take-append-drop, length-append, length-drop}
-use lib.Seq.{drop-drop, drop-at, take-at, length-take-le, take-append-add, drop-append-add}
+use lib.ListN.{length, take, drop, length-append, length-drop}
+use lib.Seq.{drop-drop, drop-at, take-at, length-take-le, take-append-le, take-append-add, drop-append-add}
 use Rattle.paper.specs.declared.Geometry.{Geometry}
 use Rattle.paper.specs.Checksum.{dataCrc}
 use Rattle.paper.specs.Chip.{roundUp, headerSize, dataStart, dataSize, pageData, put, part, Event, imageAfter, before}
-use Rattle.paper.specs.Slip.{blank, encode, bytesOf, look, item, bad}
-use Rattle.paper.specs.Scan.{Head, walk, pageWalk}
+use Rattle.paper.specs.Slip.{blank}
+use Rattle.paper.specs.Scan.{Head, Walk, walk, pageWalk}
 use Rattle.paper.specs.Pages.{startMark, endMark}
 use Rattle.paper.specs.Push.{itemAt}
 use Rattle.paper.specs.Fifo.{Bytes}
@@ -22,15 +23,15 @@ use Rattle.laws.proofs.Headers.{header-ge}
 use Rattle.demand3.proofs.Sizes.{itemSize}
 use Rattle.demand3.proofs.Blank.{blank-take, blank-drop}
 use Rattle.demand3.proofs.Bytes.{bytes-append, bytes-drop}
-use Rattle.demand3.proofs.Headers.{look-encoded}
 use Rattle.demand3.proofs.Ands.{ands-blank}
 use Rattle.demand3.proofs.Words.{words-prefix}
 use Rattle.demand3.proofs.Replaced.{NoneAccepted}
-use Rattle.demand3.proofs.Tails.{item-walk, half-look, half-walk}
+use Rattle.demand3.proofs.Tails.{item-walk}
+use Rattle.demand3.proofs.BegunHeader.{PassedBy, LastTells, begun-walk, begun-unread}
 use Rattle.demand3.proofs.Views.{View, in-data, put-inner, page-inside, page-split}
 use Rattle.demand3.proofs.Changed.{Changed, inner-changed}
 use Rattle.demand3.proofs.FreeSpot.{Site, current, scanned, spotOf, site-in, front, split, sizes, spot-at, rest-blank, rest-bytes, withTail, Regrown}
-use Rattle.demand3.proofs.Item.{headerOf, paddedSlip, itemBytes, itemWords, length-header, length-padded, length-item, item-size, item-words, written, bytes-written, within-item, length-written, one-word}
+use Rattle.demand3.proofs.Item.{headerOf, paddedSlip, itemBytes, itemWords, length-header, length-padded, length-item, item-size, item-words, written, bytes-written, within-item, length-written}
 
 -- a slip that a push may write there
 pub record Writable {g : Geometry} {im : List ℕ} (S : Site g im) (slip : List ℕ) : Type 0 where
@@ -213,40 +214,41 @@ module _ {g : Geometry} {im : List ℕ} {S : Site g im} {slip : List ℕ} (F : W
           at-spot (withWords S slip j) (headerSize g) n (omega (arith, sizes S, round-up-ge (g .word) (length slip) pos, F .room))
           ∙ ap (λ (v : View). part (headerSize g) n (drop f (v .inner))) (words-changed .this) ∙ ap (take n) d
 
-  -- words of 4, and only the first word of the header is there
-  module _ (w4 : g .word ≡ 4) where
-    abbrev one : 1 ≤ itemWords g slip
-    one = one-word g (S .inv .good .sized .low) slip
+  -- fewer than 8 bytes of the header are there
+  module _ (j : ℕ) (hj : j ≤ itemWords g slip) (h : j * g .word < 8) (t : LastTells (j * g .word) (length slip)) where
+    abbrev m : ℕ
+    m = j * g .word
 
-    half-tail : tail-now 1 one ≡ bytesOf 4 (dataCrc slip) ++ drop 4 (scanned S .rest)
-    unfolding tail-now written itemBytes encode bytesOf
-    half-tail = rw w4
+    left : blank (drop (j * g .word) (scanned S .rest)) ≡ true
+    left = blank-drop m rest serves-blank
 
-    pub half-regrown : Clear S (withWords S slip 1) → Regrown S (withWords S slip 1) (tail-now 1 one) [] (spotOf S ∷ []) (drop 4 (scanned S .rest))
-    half-regrown U =
-        let e = blank-drop 4 rest serves-blank in
-        record {
-          room = has-room;
-          long = tail-length 1 one;
-          changed = words-changed 1 one;
-          scan = ap (walk g 0 (spotOf S)) half-tail
-              ∙ half-walk g pos w4 (spotOf S) (dataCrc slip) (drop 4 rest) (data-low slip .1) (omega (arith, length-drop 4 rest, header-ge g pos, F .room)) e;
-          clean = inr e;
-          quiet = λ q. let k : ⊥ = omega arith in absurd k;
-          bytes = tail-bytes 1 one;
-          unmet = U;
-        }
+    begun-tail : tail-now j hj ≡ take (j * g .word) (headerOf g slip) ++ drop (j * g .word) (scanned S .rest)
+    unfolding tail-now written itemBytes
+    begun-tail = ap₂ _++_ (take-append-le m (headerOf g slip) (paddedSlip g slip) (omega (arith, length-header g pos slip, header-ge g pos)))
+        (ap (λ (y : ℕ). drop y rest) (lw j hj))
+
+    -- the walk from the spot on
+    abbrev pub onNow : Walk
+    onNow = walk g 0 (spotOf S) (tail-now j hj)
+
+    begun-passed : PassedBy g (spotOf S) (j * g .word) onNow
+    begun-passed = subst (λ (l : List ℕ). PassedBy g (spotOf S) m (walk g 0 (spotOf S) l)) (sym begun-tail)
+        (begun-walk g pos m (dataCrc slip) (length slip) (drop m rest) h left t j (spotOf S) refl)
+
+    pub begun-regrown : 0 < j → Clear S (withWords S slip j) → Regrown S (withWords S slip j) (tail-now j hj) [] (onNow .refused) (onNow .rest)
+    begun-regrown j0 U = record {
+      room = has-room;
+      long = tail-length j hj;
+      changed = words-changed j hj;
+      scan = ap (λ (hs : List Head). record { heads = hs; refused = onNow .refused; rest = onNow .rest }) (begun-passed .none);
+      clean = begun-passed .clean;
+      quiet = λ q. let k : ⊥ = omega (arith, mul-le-mul-right (g .word) j0) in absurd k;
+      bytes = tail-bytes j hj;
+      unmet = U;
+    }
 
     -- no header reads whole there
-    pub half-unread : part (spotOf S) (headerSize g) (withWords S slip 1) ≡ headerOf g slip → ⊥
-    half-unread e =
-        let T : List ℕ = tail-now 1 one in
-        let n : ℕ = headerSize g in
-        let D : List ℕ = drop n T in
-        let z : headerOf g slip ++ D ≡ T = ap (λ (l : List ℕ). l ++ D) (sym e ∙ reads 1 one) ∙ take-append-drop n T in
-        let room : roundUp (g .word) (length slip) ≤ length D = omega (arith, length-drop n T, tail-length 1 one, F .room) in
-        let i = look-encoded g pos (dataCrc slip) (length slip) D (data-lt slip) (F .short) (data-low slip .1) room in
-        let b = half-look g pos (dataCrc slip) (drop 4 rest) (data-low slip .1) (omega (arith, length-drop 4 rest, header-ge g pos, F .room))
-        (blank-drop 4 rest serves-blank) in
-        let y : item (dataCrc slip) (length slip) (take (length slip) D) ≡ bad = sym i ∙ ap (look g) (z ∙ half-tail) ∙ b in
-        let x : _≡_ {A = ℕ} 0 1 = cc in omega arith
+    pub begun-no-header : part (spotOf S) (headerSize g) (withWords S slip j) ≡ headerOf g slip → ⊥
+    begun-no-header e =
+        begun-unread g pos m (dataCrc slip) (length slip) (drop m rest) h left t (omega (arith, length-drop m rest, has-room, header-ge g pos))
+        (ap (take (headerSize g)) (sym begun-tail) ∙ sym (reads j hj) ∙ e)
