@@ -6,7 +6,7 @@ use mathlib.Core.Path.{_≡_, refl, ap, _∙_, subst}
 use Prim.Native.Nat.{ℕ, zero, suc, _+_, _*_, _≤_, _<_}
 use native.Mathlib.Nat.{mul-zero}
 use native.Mathlib.Omega.{arith}
-use borrow.Author.Tests.{ltb-true, ltb-false, le-ltb, leb-true, leb-false, eqb-true, eqb-false, eq-eqb, le-leb, ne-eqb}
+use borrow.Author.Tests.{ltb-true, ltb-false, le-ltb, leb-true, leb-false, eqb-true, eqb-false, eq-eqb, le-leb}
 use lib.Dec.{ltb, leb, eqb}
 use lib.ListN.{length, take}
 use Rattle.paper.specs.declared.Geometry.{Geometry}
@@ -97,11 +97,6 @@ module _ (g : Geometry) (d : List ℕ) where
   pub blank-stop : blank (take (headerSize g) d) ≡ true → look g d ≡ stop
   unfolding look
   blank-stop e = rw (e, or-true (ltb (length d) (headerSize g)))
-
-  pub bad-look : headerSize g ≤ length d → blank (take (headerSize g) d) ≡ false → (lengthCrc (part 4 2 d) ≡ numberOf (part 6 2 d) → ⊥)
-      → look g d ≡ bad
-  unfolding look decode
-  bad-look h u n = rw (le-ltb (length d) (headerSize g) h, u, ne-eqb (lengthCrc (part 4 2 d)) (numberOf (part 6 2 d)) n)
 
   pub item-look : {c n : ℕ} {body : List ℕ} → Taken g d c n body → look g d ≡ item c n body
   unfolding look decode
