@@ -1,4 +1,4 @@
--- Fewer than 8 bytes of a header, and FF behind them: the walk accepts nothing there, and no header reads whole. Assumes nothing.
+-- Fewer than 8 bytes of a header, and FF behind them: the walk accepts nothing there, and no header reads whole, but for one case. Assumes nothing.
 use mathlib.Core.Bool.{true, _&&_}
 use mathlib.Core.List.{List, [], _∷_, _++_, List·Memᴰ, List·Memᴰ·cases-cons, List·Memᴰ·not-nil}
 use mathlib.Core.Logic.{_⊎_, inl, inr}
@@ -9,7 +9,7 @@ use native.Mathlib.Omega.{arith}
 use borrow.Author.Tests.{eqb-true}
 use lib.Dec.{eqb}
 use lib.ListN.{length, take, drop, replicate, length-append, length-drop}
-use lib.Seq.{take-all, length-take-le, drop-append-le, drop-append-add}
+use lib.Seq.{take-all, length-take-le, take-append-add, drop-append-le, drop-append-add}
 use Rattle.paper.specs.declared.Geometry.{Geometry}
 use Rattle.paper.specs.Checksum.{lengthCrc}
 use Rattle.paper.specs.Chip.{headerSize, part}
@@ -65,6 +65,17 @@ module _ (g : Geometry) (pos : 0 < g .word) where
       let f : p ≡ 255 = eqb-true p 255 (and-true (eqb p 255) _ e .0) in
       let q : lengthCrc (bytesOf 2 n) ≡ lengthCrc (bytesOf 2 n) % 256 + 256 * (p + 256 * 0) = k in
       t refl (omega arith)
+
+  -- where the length's is FF too, seven bytes and FF read as the whole header
+  pub seven-read : (c n : ℕ) (z : List ℕ) → headerSize g ≤ 7 + length z → blank z ≡ true → lengthCrc (bytesOf 2 n) / 256 ≡ 255
+      → take (headerSize g) (take 7 (encode g c n) ++ z) ≡ encode g c n
+  unfolding encode bytesOf
+  seven-read c n z l e f =
+      let k : ℕ = headerSize g - 8 in
+      let T : List ℕ = take 7 (encode g c n) in
+      let q : headerSize g ≡ length T + suc k = omega (arith, header-ge g pos) in
+      ap (λ (y : ℕ). take y (T ++ z)) q ∙ take-append-add T z (suc k) ∙ ap (λ (y : List ℕ). T ++ y) (blank-is (suc k) z e (omega (arith, header-ge g pos)))
+      ∙ ap (λ (y : ℕ). T ++ (y % 256 ∷ replicate k 255)) (sym f)
 
   length-begun : (m c n : ℕ) → m < 8 → length (take m (encode g c n)) ≡ m
   length-begun m c n h = length-take-le m (encode g c n) (omega (arith, length-encode g pos c n, header-ge g pos))
