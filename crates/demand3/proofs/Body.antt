@@ -21,8 +21,8 @@ use Rattle.checksum.proofs.Adjusted.{data-low}
 use Rattle.demand3.proofs.Sizes.{itemSize}
 use Rattle.demand3.proofs.Blank.{blank-is, blank-drop}
 use Rattle.demand3.proofs.FreeSpot.{Site, scanned}
-use Rattle.demand3.proofs.Item.{paddedSlip, itemWords, length-padded, item-size, within-item}
-use Rattle.demand3.proofs.Written.{Writable, serves-blank, paid, paid-is, behind, newHead}
+use Rattle.demand3.proofs.Item.{paddedSlip, itemWords, length-padded, item-size}
+use Rattle.demand3.proofs.Written.{Writable, serves-blank, paid, paid-fits, behind, newHead}
 
 -- the first m bytes of s, and FF
 abbrev begun : List ℕ → ℕ → List ℕ
@@ -48,15 +48,14 @@ begun-stays (x ∷ s) (suc m) (suc k) h e =
 begun-all : (s : List ℕ) (m : ℕ) → length s ≤ m → begun s m ≡ s
 begun-all s m h = let z : length s - m ≡ 0 = omega arith in rw (take-all m s h, z) (append-nil s)
 
-module _ {g : Geometry} {im : List ℕ} {S : Site g im} {slip : List ℕ} (F : Writable S slip) (j : ℕ) (hj : j ≤ itemWords g slip)
-    (h : headerSize g ≤ j * g .word) where
+module _ {g : Geometry} {im : List ℕ} {S : Site g im} {slip : List ℕ} (F : Writable S slip) (j : ℕ) (hj : j ≤ itemWords g slip) where
   pos : 0 < g .word
   pos = S .inv .good .sized .low
 
   abbrev m : ℕ
-  m = paid F j hj h
+  m = paid F j hj
 
-  body-is : newHead F j hj h .body ≡ begun slip (paid F j hj h)
+  body-is : newHead F j hj .body ≡ begun slip (paid F j hj)
   unfolding newHead behind paddedSlip
   body-is = by (side m n)
     where
@@ -79,46 +78,47 @@ module _ {g : Geometry} {im : List ℕ} {S : Site g im} {slip : List ℕ} (F : W
           (ap (λ (x : ℕ). take (n - x) D) lt ∙ blank-is (n - m) D (blank-drop (headerSize g + m) (scanned S .rest) (serves-blank F)) room)
       by (above l) =
           let X : List ℕ = slip ++ Z in
-          let k : length (take m X) ≡ m = length-take-le m X (omega (arith, within-item g pos slip j hj, paid-is F j hj h, length-padded g pos slip)) in
+          let k : length (take m X) ≡ m = length-take-le m X (omega (arith, paid-fits F j hj, length-padded g pos slip)) in
           take-append-le n (take m X) D (omega arith) ∙ take-take n m X l ∙ take-at slip Z n refl ∙ sym (begun-all slip m l)
 
-  pub whole-body : j ≡ itemWords g slip → newHead F j hj h .body ≡ slip
+  pub whole-body : j ≡ itemWords g slip → newHead F j hj .body ≡ slip
+  unfolding paid
   whole-body q =
       let jq : j * g .word ≡ itemSize g (length slip) = ap (λ (y : ℕ). y * g .word) q ∙ sym (item-size g pos slip) in
-      body-is ∙ begun-all slip m (omega (arith, paid-is F j hj h, round-up-ge (g .word) (length slip) pos))
+      body-is ∙ begun-all slip m (omega (arith, round-up-ge (g .word) (length slip) pos))
 
   -- the item is present exactly where its payload passes
-  new-present : present (newHead F j hj h) ≡ eqb (dataCrc (newHead F j hj h .body)) (dataCrc slip)
+  new-present : present (newHead F j hj) ≡ eqb (dataCrc (newHead F j hj .body)) (dataCrc slip)
   unfolding present live newHead
   new-present = rw (ne-eqb (dataCrc slip) 0 (λ q. data-low slip .0 (ap (λ (y : ℕ). y % 256) q)))
 
-  pub slip-payloads : newHead F j hj h .body ≡ slip → payloads (newHead F j hj h ∷ []) ≡ slip ∷ []
+  pub slip-payloads : newHead F j hj .body ≡ slip → payloads (newHead F j hj ∷ []) ≡ slip ∷ []
   unfolding payloads
   slip-payloads z = rw (new-present, z, eq-eqb (dataCrc slip) (dataCrc slip) refl)
 
-  pub new-payloads : (dataCrc (newHead F j hj h .body) ≡ dataCrc slip → newHead F j hj h .body ≡ slip)
-      → (payloads (newHead F j hj h ∷ []) ≡ []) ⊎ (payloads (newHead F j hj h ∷ []) ≡ slip ∷ [])
+  pub new-payloads : (dataCrc (newHead F j hj .body) ≡ dataCrc slip → newHead F j hj .body ≡ slip)
+      → (payloads (newHead F j hj ∷ []) ≡ []) ⊎ (payloads (newHead F j hj ∷ []) ≡ slip ∷ [])
   unfolding payloads
-  new-payloads f = by (eqb (dataCrc (newHead F j hj h .body)) (dataCrc slip)) refl
+  new-payloads f = by (eqb (dataCrc (newHead F j hj .body)) (dataCrc slip)) refl
     where
-      by : (t : Bool) → eqb (dataCrc (newHead F j hj h .body)) (dataCrc slip) ≡ t
-          → (payloads (newHead F j hj h ∷ []) ≡ []) ⊎ (payloads (newHead F j hj h ∷ []) ≡ slip ∷ [])
-      by true q = inr (slip-payloads (f (eqb-true (dataCrc (newHead F j hj h .body)) (dataCrc slip) q)))
+      by : (t : Bool) → eqb (dataCrc (newHead F j hj .body)) (dataCrc slip) ≡ t
+          → (payloads (newHead F j hj ∷ []) ≡ []) ⊎ (payloads (newHead F j hj ∷ []) ≡ slip ∷ [])
+      by true q = inr (slip-payloads (f (eqb-true (dataCrc (newHead F j hj .body)) (dataCrc slip) q)))
       by false q = inl (rw (new-present, q))
 
-  pub payloads-slip : payloads (newHead F j hj h ∷ []) ≡ slip ∷ [] → newHead F j hj h .body ≡ slip
+  pub payloads-slip : payloads (newHead F j hj ∷ []) ≡ slip ∷ [] → newHead F j hj .body ≡ slip
   unfolding payloads
-  payloads-slip e = by (present (newHead F j hj h)) refl e
+  payloads-slip e = by (present (newHead F j hj)) refl e
     where
-      by : (t : Bool) → present (newHead F j hj h) ≡ t → cond t (newHead F j hj h .body ∷ []) [] ≡ slip ∷ [] → newHead F j hj h .body ≡ slip
+      by : (t : Bool) → present (newHead F j hj) ≡ t → cond t (newHead F j hj .body ∷ []) [] ≡ slip ∷ [] → newHead F j hj .body ≡ slip
       by true q f = cc
       by false q f = let z : _≡_ {A = ℕ} 0 1 = cc in absurd (omega arith)
 
 -- once the slip stands there, it stays
 pub body-stays : {g : Geometry} {im : List ℕ} {S : Site g im} {slip : List ℕ} (F : Writable S slip) (i j : ℕ)
-    (hi : i ≤ itemWords g slip) (hj : j ≤ itemWords g slip)
-    (h : headerSize g ≤ i * g .word) (k : headerSize g ≤ j * g .word) → i ≤ j → newHead F i hi h .body ≡ slip → newHead F j hj k .body ≡ slip
-body-stays {g} {slip = slip} F i j hi hj h k l e =
+    (hi : i ≤ itemWords g slip) (hj : j ≤ itemWords g slip) → i ≤ j → newHead F i hi .body ≡ slip → newHead F j hj .body ≡ slip
+unfolding paid
+body-stays {g} {slip = slip} F i j hi hj l e =
     let z : i * g .word ≤ j * g .word = mul-le-mul-right (g .word) l in
-    let p : paid F i hi h ≤ paid F j hj k = omega (arith, paid-is F i hi h, paid-is F j hj k) in
-    body-is F j hj k ∙ begun-stays slip (paid F i hi h) (paid F j hj k) p (sym (body-is F i hi h) ∙ e)
+    let p : paid F i hi ≤ paid F j hj = omega arith in
+    body-is F j hj ∙ begun-stays slip (paid F i hi) (paid F j hj) p (sym (body-is F i hi) ∙ e)

@@ -28,6 +28,7 @@ pub mod ErasedRange
 pub mod FreeSpot
 pub mod Item
 pub mod Written
+pub mod ReadHeader
 pub mod Body
 pub mod Adding
 pub mod Steady

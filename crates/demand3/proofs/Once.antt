@@ -3,12 +3,12 @@ use mathlib.Core.Bool.{Bool, true, false}
 use mathlib.Core.List.{List, [], _∷_, _++_, append-nil, append-cancel-left, tail}
 use mathlib.Core.Logic.{_⊎_, inl, inr}
 use mathlib.Core.Path.{_≡_, refl, sym, ap, _∙_}
-use Prim.Native.Nat.{ℕ, zero, suc, _+_, _-_, _*_, _≤_, _<_}
+use Prim.Native.Nat.{ℕ, zero, suc, _+_, _-_, _≤_, _<_}
 use native.Mathlib.Omega.{arith}
 use lib.ListN.{length}
 use Rattle.paper.specs.declared.Geometry.{Geometry}
 use Rattle.paper.specs.declared.Refusal.the-variants as refusal
-use Rattle.paper.specs.Chip.{headerSize, Event, imageAfter, storeCount, before, writes, plan, gives}
+use Rattle.paper.specs.Chip.{Event, imageAfter, storeCount, before, writes, plan, gives}
 use Rattle.paper.specs.Slip.{encode}
 use Rattle.paper.specs.Scan.{Head}
 use Rattle.paper.specs.Refusals.{Answer, done, shown, empty, refused}
@@ -26,6 +26,8 @@ use Rattle.demand3.proofs.ZeroedHeader.{crc-words}
 use Rattle.demand3.proofs.Invariant.{Inv}
 use Rattle.demand3.proofs.FreeSpot.{spotOf}
 use Rattle.demand3.proofs.Item.{itemWords}
+use Rattle.demand3.proofs.Written.{Writable, HeaderReads, after-words}
+use Rattle.demand3.proofs.ReadHeader.{read-or-not}
 use Rattle.demand3.proofs.Adding.{Added, list-stays}
 use Rattle.demand3.proofs.Steady.{Steady, steady-before, steady-after}
 use Rattle.demand3.proofs.Ghosts.{StayRefused}
@@ -125,10 +127,11 @@ module _ {g : Geometry} {im : List ℕ} {o b : ℕ} (I : Inv g im o b) (gh : Gho
   n = itemWords g slip
 
   -- the words of the item that are there, where the payload's place is not asked for
-  added : (k j : ℕ) → storeCount es ≤ k → k - storeCount es ≡ j → (headerSize g ≤ j * g .word → j < n → ⊥)
+  added : (k j : ℕ) → storeCount es ≤ k → k - storeCount es ≡ j → (HeaderReads (R .site) slip (imageAfter g (before j it) jm) → j < n → ⊥)
       → Added (R .site) slip j (imageAfter g (before j it) jm)
   added k j h e f =
-      rw (image-append g es (before j it) im) at (words-added I gh slip hb t R j (refused-stay k j h e) (λ x y. absurd (f x y)))
+      let q = image-append g es (before j it) im in
+      rw q at (words-added I gh slip hb t R j (refused-stay k j h e) (λ x y. absurd (f (rw q at x) y)))
 
   all : (k : ℕ) → storeCount es + n ≤ k → listed k ≡ longer
   all k h =
@@ -143,19 +146,25 @@ module _ {g : Geometry} {im : List ℕ} {o b : ℕ} (I : Inv g im o b) (gh : Gho
       j : ℕ
       j = k - storeCount es
 
+      F : Writable (R .site) slip
+      F = W I gh slip hb t R
+
       same : waiting g jm ≡ waiting g im
       same = same-list I gh slip hb t R
 
       here : storeCount es ≤ k → waiting g (imageAfter g (before j it) jm) ≡ waiting g jm ++ (slip ∷ [])
       here l = sym (late k j l refl) ∙ e ∙ ap (λ (x : List (List ℕ)). x ++ (slip ∷ [])) (sym same)
 
-      next-word : storeCount es ≤ k → suc j ≤ n → Side (j * g .word) (headerSize g) → listed (suc k) ≡ longer
-      next-word l m (below h) = absurd (apart (sym (late k j l refl ∙ added k j l refl (λ x y. omega arith) .early h ∙ same) ∙ e))
-      next-word l m (above h) =
+      Reads : Type 0
+      Reads = HeaderReads (R .site) slip (imageAfter g (before j it) jm)
+
+      next-word : storeCount es ≤ k → suc j ≤ n → Reads ⊎ (Reads → ⊥) → listed (suc k) ≡ longer
+      next-word l m (inr u) = absurd (apart (sym (late k j l refl ∙ added k j l refl (λ x y. u x) .early u ∙ same) ∙ e))
+      next-word l m (inl r) =
           let z : suc k - storeCount es ≡ suc j = omega arith in
           let U = words-clear I gh slip hb t R j (refused-stay k j l refl) in
           let U₁ = words-clear I gh slip hb t R (suc j) (refused-stay (suc k) (suc j) (omega arith) z) in
-          late (suc k) (suc j) (omega arith) z ∙ list-stays (W I gh slip hb t R) j m h U U₁ (here l)
+          late (suc k) (suc j) (omega arith) z ∙ list-stays F j m r U U₁ (here l)
           ∙ ap (λ (x : List (List ℕ)). x ++ (slip ∷ [])) same
 
       by : Side k (storeCount es) → listed (suc k) ≡ longer
@@ -164,7 +173,7 @@ module _ {g : Geometry} {im : List ℕ} {o b : ℕ} (I : Inv g im o b) (gh : Gho
       by (above l) = on (side j n)
         where
           on : Side j n → listed (suc k) ≡ longer
-          on (below m) = next-word l m (side (j * g .word) (headerSize g))
+          on (below m) = next-word l m (rw (after-words F j (omega arith)) (read-or-not F j (omega arith)))
           on (above m) = all (suc k) (omega arith)
 
   push-once : ChangesOnce g im (pushes slip false)

@@ -16,18 +16,18 @@ use Rattle.paper.specs.Slip.{encode}
 use Rattle.paper.specs.Push.{at, tooBig, spotFor, itemAt, Full}
 use Rattle.paper.specs.Calls.{Call, pushes, peeks, pops, fits, spaces, erasesAll}
 use Rattle.paper.specs.Fifo.{Power, whole, cutAfter, Counted, slipOf, eventsOf, imageNext, headerPlan, headerAt, Ghost, Bytes, NoPassing}
-use Rattle.laws.proofs.Events.{image-append, before-more}
+use Rattle.laws.proofs.Events.{image-append, before-more, before-all}
 use Rattle.laws.proofs.Sides.{Side, below, above, side}
 use Rattle.demand3.specs.Passing.{PassingCounted, SameCounted}
 use Rattle.demand3.proofs.Sizes.{below-header, never-seven}
 use Rattle.demand3.proofs.Words.{words-whole}
 use Rattle.demand3.proofs.Invariant.{Inv}
 use Rattle.demand3.proofs.FreeSpot.{spotOf}
-use Rattle.demand3.proofs.Item.{itemWords, few-words}
-use Rattle.demand3.proofs.Written.{after-words, begun-no-header}
+use Rattle.demand3.proofs.Item.{itemWords, item-size, count-item, few-words}
+use Rattle.demand3.proofs.Written.{Writable, HeaderReads, after-words, written-reads, begun-no-header}
 use Rattle.demand3.proofs.SpotReady.{SpotReady}
 use Rattle.demand3.proofs.SpotSearch.{Spotted, isFull, isAt, spotted-for}
-use Rattle.demand3.proofs.Push.{small-enough, W, header-whole, pl}
+use Rattle.demand3.proofs.Push.{small-enough, W, pl}
 use Rattle.demand3.proofs.Demand3.{held}
 
 abbrev Same : Geometry → List ℕ → Call → Power → Type 0
@@ -85,12 +85,31 @@ module _ {g : Geometry} {im : List ℕ} {o b : ℕ} (I : Inv g im o b) (gh : Gho
   unfolding imageNext eventsOf
   image k l = rw (pl I gh slip hb t R q N, before-more k es it l)
 
+  -- all words of the header, and maybe more
+  whole-read : (j : ℕ) → wordsFor (g .word) (headerSize g) ≤ j → HeaderReads (R .site) slip (imageAfter g (es ++ before j it) im)
+  whole-read j h = by (side j n)
+    where
+      n : ℕ
+      n = itemWords g slip
+
+      F : Writable (R .site) slip
+      F = W I gh slip hb t R
+
+      some-of : (i : ℕ) → i ≤ n → headerSize g ≤ i * g .word → HeaderReads (R .site) slip (imageAfter g (es ++ before i it) im)
+      some-of i k l = ap (part (spotOf (R .site)) (headerSize g)) (image-append g es (before i it) im ∙ after-words F i k) ∙ written-reads F i k l
+
+      all-of : (i : ℕ) → n ≤ i → before i it ≡ it
+      all-of i k = before-all i it (omega (arith, count-item g pos slip (spotOf (R .site))))
+
+      by : Side j n → HeaderReads (R .site) slip (imageAfter g (es ++ before j it) im)
+      by (below l) = some-of j (omega arith) (omega (arith, mul-le-mul-right (g .word) h, header-count g pos))
+      by (above l) =
+          ap (λ (x : List Event). part (spotOf (R .site)) (headerSize g) (imageAfter g (es ++ x) im)) (all-of j l ∙ sym (all-of n (omega arith)))
+          ∙ some-of n (omega arith) (omega (arith, item-size g pos slip))
+
   all-read : (k : ℕ) → storeCount es + (wordsFor (g .word) (headerSize g) - 1) < k → Reads k
   all-read k h =
-      let j : ℕ = k - storeCount es in
-      let l : wordsFor (g .word) (headerSize g) * g .word ≤ j * g .word = mul-le-mul-right (g .word) (omega arith) in
-      ap₂ (λ (x : ℕ) (jm : List ℕ). part x (headerSize g) jm) (R .at-spot) (image k (omega arith))
-      ∙ header-whole I gh slip hb t R j (omega (arith, header-count g pos))
+      ap₂ (λ (x : ℕ) (jm : List ℕ). part x (headerSize g) jm) (R .at-spot) (image k (omega arith)) ∙ whole-read (k - storeCount es) (omega arith)
 
   read-all : (k : ℕ) → storeCount es + 0 < k → Reads k → storeCount es + (wordsFor (g .word) (headerSize g) - 1) < k
   read-all k h e = by (side (k - storeCount es) (wordsFor (g .word) (headerSize g)))

@@ -3,17 +3,14 @@ use mathlib.Core.Bool.{Bool, true, false, _||_}
 use mathlib.Core.List.{List, [], _∷_, _++_, List·Memᴰ, List·Memᴰ·head}
 use mathlib.Core.Logic.{_⊎_, inl, inr}
 use mathlib.Core.Path.{_≡_, refl, sym, ap, _∙_}
-use Prim.Native.Nat.{ℕ, _+_, _-_, _*_, _≤_, _<_}
-use native.Mathlib.Nat.{mul-le-mul-right}
+use Prim.Native.Nat.{ℕ, _+_, _-_, _≤_, _<_}
 use native.Mathlib.Omega.{arith}
 use borrow.Author.Tests.{ltb-false, lt-ltb}
 use lib.Dec.{ltb}
 use lib.ListN.{length}
 use Rattle.paper.specs.declared.Geometry.{Geometry}
 use Rattle.paper.specs.declared.Refusal.the-variants as refusal
-use Rattle.paper.specs.Checksum.{dataCrc}
 use Rattle.paper.specs.Chip.{headerSize, dataSize, part, Event, imageAfter, storeCount, before, plan, bind, gives}
-use Rattle.paper.specs.Slip.{encode}
 use Rattle.paper.specs.Scan.{pageWalk}
 use Rattle.paper.specs.Refusals.{done, refused}
 use Rattle.paper.specs.Push.{full, at, tooBig, spotFor, itemAt, pushAt, push, Full}
@@ -22,13 +19,13 @@ use Rattle.paper.specs.Waiting.{waiting}
 use Rattle.paper.specs.Fifo.{Power, whole, cutAfter, eventsOf, imageNext, Ghost, ghostNext, headerPlan, headerAt, got, Bytes, Fair, added, big, noRoom}
 use Rattle.laws.proofs.Events.{image-append, before-less, before-more, before-all}
 use Rattle.laws.proofs.Sides.{Side, below, above, side}
-use Rattle.laws.proofs.Headers.{header-ge}
 use Rattle.demand3.proofs.Events.{avoid-append, avoid-before}
 use Rattle.demand3.proofs.Plans.{bind-known}
 use Rattle.demand3.proofs.Invariant.{Inv}
 use Rattle.demand3.proofs.FreeSpot.{Site, current, spotOf, site-in}
-use Rattle.demand3.proofs.Item.{itemWords, item-size, count-item, avoid-item}
-use Rattle.demand3.proofs.Written.{Writable, Clear, after-words, header-reads}
+use Rattle.demand3.proofs.Item.{itemWords, count-item, avoid-item}
+use Rattle.demand3.proofs.Written.{Writable, HeaderReads, Clear, after-words}
+use Rattle.demand3.proofs.ReadHeader.{none-read}
 use Rattle.demand3.proofs.Adding.{Added, PassesAsSlip, adding}
 use Rattle.demand3.proofs.Steady.{Steady, rests, steady-before, steady-after}
 use Rattle.demand3.proofs.ListOnWay.{way-there}
@@ -100,32 +97,12 @@ module _ {g : Geometry} {im : List ℕ} {o b : ℕ} (I : Inv g im o b) (gh : Gho
       rw (image-append g es (before j it) im) at (unmet im (I .good) gh es (S .inv) (before j it) (current S) (site-in S) (R .origin) av F)
 
   pub words-added : (j : ℕ) → StayRefused g im gh (es ++ before j it)
-      → (headerSize g ≤ j * g .word → j < itemWords g slip → PassesAsSlip (R .site) slip (imageAfter g (es ++ before j it) im))
+      → (HeaderReads (R .site) slip (imageAfter g (es ++ before j it) im) → j < itemWords g slip
+      → PassesAsSlip (R .site) slip (imageAfter g (es ++ before j it) im))
       → Added (R .site) slip j (imageAfter g (es ++ before j it) im)
   words-added j F P =
       let q = image-append g es (before j it) im in
       rw q (adding W j (words-clear j F) (rw q at P))
-
-  -- where j words make a whole header, it reads whole
-  pub header-whole : (j : ℕ) → headerSize g ≤ j * g .word
-      → part (spotOf (R .site)) (headerSize g) (imageAfter g (es ++ before j it) im) ≡ encode g (dataCrc slip) (length slip)
-  header-whole j h = by (side j n)
-    where
-      n : ℕ
-      n = itemWords g slip
-
-      some-of : (i : ℕ) → i ≤ n → headerSize g ≤ i * g .word
-          → part a (headerSize g) (imageAfter g (es ++ before i it) im) ≡ encode g (dataCrc slip) (length slip)
-      some-of i k l = ap (part a (headerSize g)) (image-append g es (before i it) im ∙ after-words W i k) ∙ header-reads W i k l
-
-      all-of : (i : ℕ) → n ≤ i → before i it ≡ it
-      all-of i k = before-all i it (omega (arith, count-item g (I .good .sized .low) slip a))
-
-      by : Side j n → part a (headerSize g) (imageAfter g (es ++ before j it) im) ≡ encode g (dataCrc slip) (length slip)
-      by (below l) = some-of j (omega arith) h
-      by (above l) =
-          ap (λ (x : List Event). part a (headerSize g) (imageAfter g (es ++ x) im)) (all-of j l ∙ sym (all-of n (omega arith)))
-          ∙ some-of n (omega arith) (omega (arith, item-size g (I .good .sized .low) slip))
 
   words-traced : (w : Power) (j : ℕ) → (0 < j → headerAt g im (pushes slip false) w 0 ≡ spotOf (R .site) ∷ [])
       → Added (R .site) slip j (imageAfter g (es ++ before j it) im) → Traced g im (pushes slip false) w (es ++ before j it)
@@ -145,15 +122,15 @@ module _ {g : Geometry} {im : List ℕ} {o b : ℕ} (I : Inv g im o b) (gh : Gho
     pub pl : planOf g im (pushes slip false) ≡ plan (es ++ it) done
     pl = plan-at g im slip t es a q
 
-    -- k stores are the marks and the whole header, which is thus begun
-    past-header : (k : ℕ) → storeCount es ≤ k → headerSize g ≤ (k - storeCount es) * g .word → storeCount es + 0 < k
-    past-header k l h = omega (arith, some (side 0 (k - storeCount es)))
+    -- after k stores the header reads whole, so it is begun
+    past-header : (k : ℕ) → storeCount es ≤ k → HeaderReads (R .site) slip (imageAfter g (es ++ before (k - storeCount es) it) im) → storeCount es + 0 < k
+    past-header k l r = omega (arith, some (side 0 (k - storeCount es)))
       where
         some : Side 0 (k - storeCount es) → 0 < k - storeCount es
         some (below z) = z
         some (above z) =
-            let y : (k - storeCount es) * g .word ≤ 0 * g .word = mul-le-mul-right (g .word) z in
-            let w : ⊥ = omega (arith, header-ge g (I .good .sized .low)) in absurd w
+            let y : k - storeCount es ≡ 0 = omega arith in
+            absurd (none-read W (sym (ap (part a (headerSize g)) (image-append g es (before 0 it) im ∙ after-words W 0 (omega arith))) ∙ rw y at r))
 
     pub at-step : (w : Power) → Fair g im gh (pushes slip false) w → Step g im (pushes slip false) w
     unfolding imageNext ghostNext eventsOf
@@ -176,8 +153,9 @@ module _ {g : Geometry} {im : List ℕ} {o b : ℕ} (I : Inv g im o b) (gh : Gho
             let j : ℕ = k - storeCount es in
             let bm : before k (es ++ it) ≡ es ++ before j it = before-more k es it l in
             let F₁ : StayRefused g im gh (es ++ before j it) = λ nw. rw (pl, bm) at (F .noneAgain nw) in
-            let P₁ : headerSize g ≤ j * g .word → j < itemWords g slip → PassesAsSlip S slip (imageAfter g (es ++ before j it) im) =
-            λ h z. (rw (pl, bm) at (F .noPassing a (rw (begun 0 (past-header k l h)) (List·Memᴰ·head refl)))) (header-whole j h) in
+            let km : List ℕ = imageAfter g (es ++ before j it) im in
+            let P₁ : HeaderReads S slip km → j < itemWords g slip → PassesAsSlip S slip km =
+            λ r z. (rw (pl, bm) at (F .noPassing a (rw (begun 0 (past-header k l r)) (List·Memᴰ·head refl)))) r in
             let A = words-added j F₁ P₁ in
             let T = words-traced (cutAfter k) j (λ h. begun 0 (omega arith)) A in
             cut-step im (pushes slip false) pl k {o = S .old} {b = S .runs} (rw bm (A .inv)) (rw bm (rw same-list at (A .list))) (rw bm T)
