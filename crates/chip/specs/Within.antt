@@ -13,7 +13,7 @@ use Rattle.laws.specs.Sized.{Sized}
 abbrev pub addressLimit : ℕ
 addressLimit = 4294967296
 
--- a geometry of such sizes whose addresses fit a u32
+-- a geometry whose sizes pass the check, and whose addresses fit a u32
 pub record Good (g : Geometry) : Type 0 where
   pub sized : Sized g
   pub top : rangeEnd g < addressLimit

@@ -15,7 +15,7 @@ use Rattle.paper.specs.Chip.{part, Event, storeCount, before, imageAfter, buffe
 use Rattle.paper.specs.Refusals.{geometryOf, check, Answer, refused}
 use Rattle.paper.specs.Calls.{Call, pushes, peeks, pops, fits, spaces, erasesAll, planned, call, planOf, requested, limited}
 use Rattle.laws.proofs.Accepted.{Laid, accepted-is, accepted-from}
-use Rattle.demand1.specs.Range.{Lies, Each, Outside, Agree, afterLimit, bufferLimit, InRange}
+use Rattle.demand1.specs.Range.{Lies, Each, Outside, Agree, imageLimit, bufferLimit, InRange}
 use Rattle.demand1.proofs.Lists.{each-before}
 use Rattle.demand1.proofs.Lying.{Alike, range-end, alike-after, alike-self, frame-after, alike-buffer}
 use Rattle.demand1.proofs.EachEvent.{Any}
@@ -92,7 +92,7 @@ abbrev SameRange : Shape → List ℕ → List ℕ → Type 0
 SameRange s i j = part (s .start) (s .end - s .start) i ≡ part (s .start) (s .end - s .start) j
 
 -- the check says of an image what it says of the image that a call leaves
-same-check : (k : ℕ) (s : Shape) (im : List ℕ) (c : Call) → check (length (afterLimit k s im c)) s ≡ check (length im) s
+same-check : (k : ℕ) (s : Shape) (im : List ℕ) (c : Call) → check (length (imageLimit k s im c)) s ≡ check (length im) s
 unfolding Held
 same-check k s im c = ap (λ (n : ℕ). check n s) (held s im c (λ p. limited k p .events) (limited-less k) (limited-none k) .size)
 
@@ -120,7 +120,7 @@ module _ (s : Shape) (im jm : List ℕ) (A : Agree s im jm) (c : Call) where
   -- what k stores leave
   module _ (k : ℕ) where
     -- of events that are the plan's, or none
-    same-image : SameRange s (afterLimit k s im c) (imageAfter (geometryOf s) (limited k (requested s im c) .events) jm)
+    same-image : SameRange s (imageLimit k s im c) (imageAfter (geometryOf s) (limited k (requested s im c) .events) jm)
     unfolding requested call imageAfter
     same-image = on (check (length im) s) refl
       where
@@ -153,7 +153,7 @@ in-range = record {
   outside-limited = λ k s im c. held s im c (λ p. limited k p .events) (limited-less k) (limited-none k);
   no-say = no-say;
   no-say-image = λ k s im jm A c.
-      let p : Plan Answer → Type 0 = λ p. SameRange s (afterLimit k s im c) (imageAfter (geometryOf s) (limited k p .events) jm) in
+      let p : Plan Answer → Type 0 = λ p. SameRange s (imageLimit k s im c) (imageAfter (geometryOf s) (limited k p .events) jm) in
       (same-check k s im c ∙ A .0 ∙ sym (same-check k s jm c), subst p (no-say s im jm A c) (same-image s im jm A c k));
   no-say-buffer = λ k s im jm A c buf.
       same-buffer s im jm A c k buf ∙ ap (λ (p : Plan Answer). bufferAfter (geometryOf s) (limited k p .events) jm buf) (no-say s im jm A c);

@@ -10,10 +10,10 @@ use lib.Dec.{eqb}
 use lib.ListN.{length}
 use Rattle.paper.specs.declared.Geometry.{Geometry}
 use Rattle.paper.specs.declared.PageState.the-variants.{Open, Corrupted}
-use Rattle.paper.specs.Chip.{dataStart, pageOf, pageBytes, Event, store, erase, copy, erasePage, imageAfter, Plan, plan, bind, andThen, Try, fails, gives}
+use Rattle.paper.specs.Chip.{dataStart, pageOf, pageBytes, Event, store, erase, copy, erasePage, imageAfter, Plan, plan, bind, andThen, Try, fails}
 use Rattle.paper.specs.Scan.{Head, pageWalk, walkOn, payloads}
 use Rattle.paper.specs.Pages.{state, same, next, around}
-use Rattle.paper.specs.Search.{Met, passed, long, met, readHeads, Stand, fromAddress, afterPage, Outcome, nothing, short, this, Ended, endsAt, onMet, readPage, leavePage, nextItem}
+use Rattle.paper.specs.Search.{Met, passed, long, met, readHeads, Stand, fromAddress, afterPage, Outcome, nothing, short, this, Ended, endedAt, endsAt, onMet, readPage, leavePage, nextItem}
 use Rattle.laws.proofs.Accepted.{Laid}
 use Rattle.laws.proofs.Events.{image-append, IsCopy, copies-image}
 use Rattle.laws.proofs.Marks.{same-is}
@@ -29,9 +29,6 @@ use Rattle.demand1.proofs.EachEvent.{left-does}
 use Rattle.demand1.proofs.Frames.{erase-long, erase-other, erase-open}
 use Rattle.demand1.proofs.ReadingHeads.{heads-copied, outcome, meet, meets, thenMeet, meet-append, passed-payloads, Meets, all, tooLong, seen, meet-is}
 use Rattle.demand1.proofs.HeadCopies.{copies-join, Kept, copies-none, readOf, copies-read, thenRead, read-append}
-
-abbrev ended : Stand → Outcome → Try Stand Ended
-ended s o = gives (record { stand = s; outcome = o })
 
 -- no store, and an erase of a finished page
 abbrev pub Clears : Geometry → List ℕ → Event → Type 0
@@ -59,7 +56,7 @@ module _ {g : Geometry} {n : ℕ} (S : Laid g n) (im : List ℕ) (b old : ℕ) (
 
   -- what a plan from the image cur comes to, where hs are the headers on its way: it ends; or it is stuck before a Corrupted page
   pub data Came (hs : List Head) (cur : List ℕ) (p : Plan (Try Stand Ended)) : Type 0 where
-    ends : (s : Stand) → p .answer ≡ ended s (meet g b hs) → Came hs cur p
+    ends : (s : Stand) → p .answer ≡ endedAt s (meet g b hs) → Came hs cur p
     stuck : (q : ℕ) → q < g .pages → p .answer ≡ fails (afterPage q) → meet g b hs ≡ nothing → state g (imageAfter g (p .events) cur) (next g q) ≡ Corrupted
         → Known (imageAfter g (p .events) cur) → Came hs cur p
 
@@ -223,7 +220,7 @@ module _ {g : Geometry} {n : ℕ} (S : Laid g n) (im : List ℕ) (b old : ℕ) (
         after es = image-append g reads es cur ∙ ap (imageAfter g es) (copies-image g reads cur only-copies)
 
         come : meet g b hs ≡ nothing → Came later cur (further cur) → Came (hs ++ later) cur (plan (reads ++ further cur .events) (further cur .answer))
-        come q (ends s e) = ends s (e ∙ ap (ended s) (sym (joined later nothing q)))
+        come q (ends s e) = ends s (e ∙ ap (endedAt s) (sym (joined later nothing q)))
         come q (stuck r h e m s K) = stuck r h e (joined later nothing q ∙ m) (rw (after (further cur .events)) s) (rw (after (further cur .events)) K)
 
         by : (m : Met) → readHeads g b a hs cur .answer ≡ m → Comes (hs ++ later) cur (bind g cur (readHeads g b a hs cur) (onMet g r further))
@@ -240,13 +237,13 @@ module _ {g : Geometry} {n : ℕ} (S : Laid g n) (im : List ℕ) (b old : ℕ) (
             (record {
               clears = each-append (Clears g im) reads [] done tt;
               copies = read-only later (short k) (met-so (long s k) q) (λ es fs. refl);
-              came = ends (fromAddress s) (ap (ended (fromAddress s)) (sym (joined later (short k) (met-so (long s k) q))));
+              came = ends (fromAddress s) (ap (endedAt (fromAddress s)) (sym (joined later (short k) (met-so (long s k) q))));
             })
         by (met h) q = subst (Comes (hs ++ later) cur) (sym (bound (met h) q))
             (record {
               clears = each-append (Clears g im) reads [] done tt;
               copies = read-only later (this h) (met-so (met h) q) (λ es fs. refl);
-              came = ends _ (ap (ended _) (sym (joined later (this h) (met-so (met h) q))));
+              came = ends _ (ap (endedAt _) (sym (joined later (this h) (met-so (met h) q))));
             })
 
   -- ---- all the way

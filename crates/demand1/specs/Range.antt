@@ -31,8 +31,8 @@ Agree s i j = (check (length i) s ≡ check (length j) s) × (part (s .start) (s
 abbrev pub imageLeft : Shape → List ℕ → Call → List ℕ
 imageLeft s im c = imageAfter (geometryOf s) (requested s im c .events) im
 
-abbrev pub afterLimit : ℕ → Shape → List ℕ → Call → List ℕ
-afterLimit k s im c = imageAfter (geometryOf s) (limited k (requested s im c) .events) im
+abbrev pub imageLimit : ℕ → Shape → List ℕ → Call → List ℕ
+imageLimit k s im c = imageAfter (geometryOf s) (limited k (requested s im c) .events) im
 
 abbrev pub bufferLimit : ℕ → Shape → List ℕ → Call → List ℕ → List ℕ
 bufferLimit k s im c buf = bufferAfter (geometryOf s) (limited k (requested s im c) .events) im buf
@@ -40,9 +40,9 @@ bufferLimit k s im c buf = bufferAfter (geometryOf s) (limited k (requested s im
 pub record InRange : Type 0 where
   pub events-lie : (g : Geometry) (im : List ℕ) (s : Shape) → check (length im) s ≡ Accepted g → (c : Call) → Each (Lies g) (planOf g im c .events)
   pub outside-whole : (s : Shape) (im : List ℕ) (c : Call) → Outside s im (imageLeft s im c)
-  pub outside-limited : (k : ℕ) (s : Shape) (im : List ℕ) (c : Call) → Outside s im (afterLimit k s im c)
+  pub outside-limited : (k : ℕ) (s : Shape) (im : List ℕ) (c : Call) → Outside s im (imageLimit k s im c)
   -- ".. and have no say": on images that agree on the range a call has the same events and answer, leaves images that agree, and the same
   -- buffer; with a limit from the number of its stores on it is whole
   pub no-say : (s : Shape) (im jm : List ℕ) → Agree s im jm → (c : Call) → requested s im c ≡ requested s jm c
-  pub no-say-image : (k : ℕ) (s : Shape) (im jm : List ℕ) → Agree s im jm → (c : Call) → Agree s (afterLimit k s im c) (afterLimit k s jm c)
+  pub no-say-image : (k : ℕ) (s : Shape) (im jm : List ℕ) → Agree s im jm → (c : Call) → Agree s (imageLimit k s im c) (imageLimit k s jm c)
   pub no-say-buffer : (k : ℕ) (s : Shape) (im jm : List ℕ) → Agree s im jm → (c : Call) (buf : List ℕ) → bufferLimit k s im c buf ≡ bufferLimit k s jm c buf

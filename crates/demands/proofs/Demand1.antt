@@ -12,7 +12,7 @@ use Rattle.paper.specs.Chip.{imageAfter, storeCount, Plan}
 use Rattle.paper.specs.Refusals.{geometryOf, check, Answer, refused}
 use Rattle.paper.specs.Calls.{Call, requested, limited}
 use Rattle.paper.specs.Fifo.{bufferOf}
-use Rattle.demand1.specs.Range.{Outside, Agree, afterLimit, bufferLimit}
+use Rattle.demand1.specs.Range.{Outside, Agree, imageLimit, bufferLimit}
 use Rattle.demand1.specs.Shapes.{Iff}
 use Rattle.demand1.proofs.Demand1.{demand1}
 use Rattle.demands.specs.Histories.{Lent, Form, unlimited, within, Promised}
@@ -73,7 +73,7 @@ module _ (s : Shape) (f : Form) (c : Call) (i o e : List ℕ) (x : Answer) (h : 
     same : requested s i c ≡ requested s j c
     same = demand1 .in-range .no-say s i j A c
 
-    image-of : (l q m : List ℕ) (z : Answer) → Promised s f c l q m z → q ≡ afterLimit (limitOf f (requested s l c)) s l c
+    image-of : (l q m : List ℕ) (z : Answer) → Promised s f c l q m z → q ≡ imageLimit (limitOf f (requested s l c)) s l c
     image-of l q m z t = whole-of s l q m z f c t .image ∙ ap (λ (r : Plan Answer). imageAfter (geometryOf s) (r .events) l) (as-limited f (requested s l c))
 
     buffer-is : (l q m : List ℕ) (z : Answer) → Promised s f c l q m z → Lent c → m ≡ bufferLimit (limitOf f (requested s l c)) s l c (bufferOf c)
@@ -83,7 +83,7 @@ module _ (s : Shape) (f : Form) (c : Call) (i o e : List ℕ) (x : Answer) (h : 
     no-say-of =
         let m : ℕ = limitOf f (requested s i c) in
         let u : limitOf f (requested s j c) ≡ m = ap (limitOf f) (sym same) in
-        let q : p ≡ afterLimit m s j c = image-of j p d y k ∙ ap (λ (n : ℕ). afterLimit n s j c) u in
+        let q : p ≡ imageLimit m s j c = image-of j p d y k ∙ ap (λ (n : ℕ). imageLimit n s j c) u in
         let b : Lent c → d ≡ bufferLimit m s j c (bufferOf c) = λ n. buffer-is j p d y k n ∙ ap (λ (l : ℕ). bufferLimit l s j c (bufferOf c)) u in (
           whole-of s i o e x f c h .answer ∙ ap (λ (r : Plan Answer). formed f r .answer) same ∙ sym (whole-of s j p d y f c k .answer),
           rw (image-of i o e x h, q) (demand1 .in-range .no-say-image m s i j A c),

@@ -60,8 +60,11 @@ pub record Ended : Type 0 where
   pub stand : Stand
   pub outcome : Outcome
 
+abbrev pub endedAt : Stand → Outcome → Try Stand Ended
+endedAt s o = gives (record { stand = s; outcome = o })
+
 abbrev pub endsAt : Stand → Outcome → Plan (Try Stand Ended)
-endsAt s o = plan [] (gives (record { stand = s; outcome = o }))
+endsAt s o = plan [] (endedAt s o)
 
 unfoldable pub onMet : Geometry → ℕ → (List ℕ → Plan (Try Stand Ended)) → Met → List ℕ → Plan (Try Stand Ended)
 onMet g p further passed im = further im

@@ -5,7 +5,7 @@ use Prim.Native.Nat.{ℕ, _≤_, _<_}
 use Rattle.paper.specs.declared.Geometry.{Geometry}
 use Rattle.paper.specs.Chip.{Try, fails, gives}
 use Rattle.paper.specs.Scan.{Head}
-use Rattle.paper.specs.Search.{passed, long, fromAddress, afterPage, Outcome, nothing, short, this, spoilt, outcomeOf}
+use Rattle.paper.specs.Search.{passed, long, fromAddress, afterPage, Outcome, nothing, short, this, spoilt, endedAt, outcomeOf}
 use Rattle.paper.specs.Search as plans
 use Rattle.laws.specs.Readable.{ReadableFrom}
 use Rattle.item.specs.declared.Item.{Item}
@@ -48,9 +48,9 @@ metAs g im (met.Present x) = plans.met (headOf g im x)
 
 -- as the answer of a step
 abbrev pub endedAs : Geometry → List ℕ → Ended → Try plans.Stand plans.Ended
-endedAs g im (ended.Nothing s) = gives (record { stand = standAs s; outcome = nothing })
-endedAs g im (ended.TooSmall s n) = gives (record { stand = standAs s; outcome = short n })
-endedAs g im (ended.Present s x) = gives (record { stand = standAs s; outcome = this (headOf g im x) })
+endedAs g im (ended.Nothing s) = endedAt (standAs s) nothing
+endedAs g im (ended.TooSmall s n) = endedAt (standAs s) (short n)
+endedAs g im (ended.Present s x) = endedAt (standAs s) (this (headOf g im x))
 endedAs g im (ended.Failed s) = fails (standAs s)
 
 -- as that of the search

@@ -5,10 +5,10 @@ use Prim.Native.Nat.{ℕ}
 use lib.Dec.{eqb}
 use Rattle.paper.specs.declared.Geometry.{Geometry}
 use Rattle.paper.specs.declared.PageState.the-variants.{Open, Corrupted}
-use Rattle.paper.specs.Chip.{dataStart, pageOf, erasePage, Plan, plan, bind, Try, fails, gives}
+use Rattle.paper.specs.Chip.{dataStart, pageOf, erasePage, Plan, plan, bind, Try, fails}
 use Rattle.paper.specs.Scan.{walkOn}
 use Rattle.paper.specs.Pages.{state, same, next}
-use Rattle.paper.specs.Search.{Met, passed, long, met, readHeads, Stand, fromAddress, afterPage, standAt, itemEnd, nothing, short, this, Ended}
+use Rattle.paper.specs.Search.{Met, passed, long, met, readHeads, Stand, fromAddress, afterPage, standAt, itemEnd, nothing, short, this, Ended, endedAt}
 
 -- what a turn comes to
 pub data Going : Type 0 where
@@ -18,8 +18,8 @@ pub data Going : Type 0 where
 -- after items of page p were read
 abbrev pub afterItems : Geometry → ℕ → Met → Going
 afterItems g p passed = goes (afterPage p)
-afterItems g p (long a n) = ends (gives (record { stand = fromAddress a; outcome = short n }))
-afterItems g p (met h) = ends (gives (record { stand = standAt g p (itemEnd g h); outcome = this h }))
+afterItems g p (long a n) = ends (endedAt (fromAddress a) (short n))
+afterItems g p (met h) = ends (endedAt (standAt g p (itemEnd g h)) (this h))
 
 -- a turn that reads on from address a
 unfoldable pub readTurn : Geometry → ℕ → ℕ → List ℕ → Plan Going
@@ -30,7 +30,7 @@ unfoldable pub leaveTurn : Geometry → ℕ → Bool → ℕ → List ℕ → Pl
 leaveTurn g old clears p im =
     let s = state g im (next g p) in
     cond (same s Corrupted) (plan [] (ends (fails (afterPage p))))
-    (cond (same s Open || eqb (next g p) old) (plan [] (ends (gives (record { stand = afterPage p; outcome = nothing }))))
+    (cond (same s Open || eqb (next g p) old) (plan [] (ends (endedAt (afterPage p) nothing)))
     (plan (cond clears (erasePage g p) []) (goes (fromAddress (dataStart g (next g p))))))
 
 abbrev pub turnFrom : Geometry → ℕ → ℕ → Bool → Stand → List ℕ → Plan Going
