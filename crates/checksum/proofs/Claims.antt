@@ -9,6 +9,7 @@ use Rattle.checksum.proofs.Registers.{mirror-inj}
 use Rattle.checksum.proofs.Unique.{rem-unique, quotient-unique, crc-unique}
 use Rattle.checksum.proofs.LongDivision.{modulo-is, crc-computed, crc-is}
 use Rattle.checksum.proofs.Constants.{length-degree, length-constant, data-degree, data-constant}
+use Rattle.checksum.proofs.Entries.{entry-shifted, entry-numbers}
 use Rattle.checksum.proofs.Answers.{length-unique, length-computed, length-is, data-unique, data-computed, data-is}
 use Rattle.checksum.proofs.Adjusted.{length-lt, length-not-ones, data-lt, data-low}
 
@@ -43,6 +44,8 @@ claims =
           record {
             degree = data-degree;
             constant = data-constant;
+            table = entry-shifted;
+            numbers = entry-numbers;
             unique = data-unique;
             computed = data-computed;
             is-computed = data-is;

@@ -1,4 +1,4 @@
--- The two divisors: their degrees, and that the code's constants are their lower terms. Assumes nothing.
+-- The two divisors: their degrees, and that the constants of their bit loops are their lower terms. Assumes nothing.
 use mathlib.Core.Path.{_≡_, refl}
 use native.Mathlib.Omega.{arith}
 use Rattle.paper.specs.Poly.{_⊕_, times}

@@ -3,7 +3,7 @@ use mathlib.Core.Path.{_≡_, sym, ap, _∙_, subst⁻¹}
 use mathlib.Core.List.{List, _∷_}
 use Prim.Native.Nat.{ℕ, _*_, _^_, _<_}
 use Rattle.paper.specs.Poly.{_⊕_, times, Remainder}
-use Rattle.checksum.proofs.Sums.{zero-sum, sum-assoc, sum-comm, sum-twice, sum-shl, times-sum, times-shl, times-zero}
+use Rattle.checksum.proofs.Sums.{zero-sum, sum-assoc, sum-comm, sum-exchange, sum-twice, sum-lt, sum-shl, times-sum, times-shl, times-zero}
 
 module _ (d : ℕ) (es : List ℕ) where
   -- equal dividends have the same remainder
@@ -22,6 +22,17 @@ module _ (d : ℕ) (es : List ℕ) where
         quotient = u ⊕ m .quotient;
         divides = sym (sum-twice v p) ∙ ap (_⊕_ v) (sum-comm v p ∙ m .divides) ∙ rw (← sum-assoc, ← times-sum);
         low = m .low;
+      }
+
+  -- a sum leaves the sum of what its two parts leave
+  pub rem-sum : {p q r s : ℕ} → Remainder d es p r → Remainder d es q s → Remainder d es (p ⊕ q) (r ⊕ s)
+  rem-sum {p} {q} {r} {s} m n =
+      let u : ℕ = times (m .quotient) (d ∷ es) in
+      let v : ℕ = times (n .quotient) (d ∷ es) in
+      record {
+        quotient = m .quotient ⊕ n .quotient;
+        divides = rw (m .divides, n .divides, times-sum) (sum-exchange u r v s);
+        low = sum-lt d (m .low) (n .low);
       }
 
   -- what is left of p stands for p: times x^k, plus s, and divided again

@@ -3,10 +3,12 @@ pub mod Registers
 pub mod Division
 pub mod Dividends
 pub mod BitLoop
+pub mod Bytewise
 pub mod ByteLoop
 pub mod Unique
 pub mod LongDivision
 pub mod Constants
+pub mod Entries
 pub mod Answers
 pub mod Adjusted
 pub mod Claims

@@ -1,11 +1,11 @@
 -- The polynomial of a register, over every width: its degree, sums, the bit that leaves, and that no two share one. Assumes nothing.
 use mathlib.Core.Path.{_≡_, refl, sym, ap, _∙_}
 use Prim.Native.Nat.{ℕ, zero, suc, _+_, _*_, _/_, _%_, _^_, _<_}
-use native.Mathlib.Nat.{add-zero, zero-add, suc-add, zero-mul, div-one, div-eq-of-lt, mod-lt, pow-suc, zero-lt-suc}
+use native.Mathlib.Nat.{add-comm, add-zero, zero-add, suc-add, zero-mul, mul-div-left, div-one, div-eq-of-lt, mod-lt, pow-suc, zero-lt-suc}
 use native.Mathlib.Numerals.{add-one, one-add}
 use native.Mathlib.Omega.{arith}
 use lib.Arith.{digits-lt, digits-div}
-use lib.Pow.{pow-add, shr-shr}
+use lib.Pow.{pow-pos, pow-add, shr-shr}
 use lib.Bits.{block-half, block-odd}
 use Rattle.paper.specs.Poly.{_⊕_}
 use Rattle.paper.specs.Checksum.{mirror}
@@ -55,6 +55,13 @@ mirror-low : (d a n : ℕ) → mirror d (a * 2 ^ d + n) ≡ mirror d n
 unfolding mirror
 mirror-low zero a n = refl
 mirror-low (suc d) a n = rw (block-odd a d n, block-half a d n, mirror-low d a (n / 2))
+
+-- times x^j, a register whose j low bits are 0 is itself, moved down by them
+pub mirror-down : (j k : ℕ) {n : ℕ} → n < 2 ^ k → mirror (j + k) (n * 2 ^ j) * 2 ^ j ≡ mirror (j + k) n
+mirror-down j k {n} h =
+    ap (λ (x : ℕ). x * 2 ^ j) (mirror-add j k (n * 2 ^ j))
+    ∙ rw (mul-div-left n (pow-pos j), sym (add-zero (n * 2 ^ j)), mirror-low j n 0, mirror-zero, zero-mul, zero-add)
+    (sym (mirror-wide k j h) ∙ ap (λ (x : ℕ). mirror x n) (add-comm k j))
 
 -- the mirror of the mirror
 pub mirror-mirror : (d : ℕ) {n : ℕ} → n < 2 ^ d → mirror d (mirror d n) ≡ n

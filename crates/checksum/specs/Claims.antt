@@ -4,6 +4,8 @@ use mathlib.Core.List.{List, [], _∷_}
 use Prim.Native.Nat.{ℕ, _+_, _/_, _%_, _^_, _<_}
 use Rattle.paper.specs.Poly.{_⊕_, times, Remainder, modulo}
 use Rattle.paper.specs.Checksum.{mirror, Crc, LengthCrc, DataCrc, lengthPoly, dataPoly, crcOf, lengthCrc, dataCrc}
+use Rattle.checksum.specs.Register.{Shifted}
+use Rattle.checksum.specs.Table.{entry}
 
 -- each exponent of the list is below d, so that x^d + x^e₁ + x^e₂ + .. has the degree d
 abbrev pub Below : ℕ → List ℕ → Type 0
@@ -46,8 +48,12 @@ pub record OfLength : Type 0 where
 pub record OfData : Type 0 where
   -- its divisor has the degree 32
   pub degree : Below 32 dataPoly
-  -- the code's constant is the rest of the divisor: bit i of 0x82f63b78 stands at x^(31-i)
+  -- the constant of the table's rule is the rest of the divisor: bit i of 0x82f63b78 stands at x^(31-i)
   pub constant : mirror 32 0x82f6_3b78 ≡ times 1 dataPoly
+  -- the table has, for each byte, what is left of that byte as a register, times x^8
+  pub table : (k : ℕ) → k < 256 → Shifted 32 dataPoly k (entry k)
+  -- three of its numbers, as they are published for CRC-32C
+  pub numbers : (entry 1 ≡ 0xf26b_8303) × (entry 128 ≡ 0x82f6_3b78) × (entry 255 ≡ 0xad7d_5351)
   -- the data CRC of some bytes is one number
   pub unique : {bytes : List ℕ} {a b : ℕ} → DataCrc bytes a → DataCrc bytes b → a ≡ b
   -- `dataCrc` computes it

@@ -3,11 +3,11 @@
 ghost use Rattle.paper.specs.Checksum.{Crc, LengthCrc, DataCrc, lengthPoly, dataPoly};
 ghost use Rattle.checksum.specs.Register.{Shifted};
 
-// A register loses its bits at the low end, so bit i of `LENGTH_POLY` belongs to x^(15-i), of `POLY` to x^(31-i). Stored
-// slips depend on both. The Rust's comment calls the first CRC-16F/4.2, but it has no constant term.
-const LENGTH_POLY: u16 = 0x1a2e;
+mod table;
 
-const POLY: u32 = 0x82f6_3b78; // Castagnoli
+// A register loses its bits at the low end, so bit i of `LENGTH_POLY` belongs to x^(15-i). Stored slips depend on it. The Rust's comment calls
+// it CRC-16F/4.2, but it has no constant term.
+const LENGTH_POLY: u16 = 0x1a2e;
 
 // A crc that never returns 0xFFFF: that is what erased flash shows.
 pub fn crc16(data: &[u8]) -> u16
@@ -77,13 +77,6 @@ pub fn crc32_with_initial(data: &[u8], initial: u32) -> u32
 fn shifted32(crc: u32) -> u32
     ensures { λ r. ⌜ Shifted 32 dataPoly crc r ⌝ }
 {
-    let mut c = crc;
-    for _ in 0..8u32 {
-        let lowest_bit_set = c & 1 > 0;
-        c >>= 1;
-        if lowest_bit_set {
-            c ^= POLY;
-        }
-    }
-    c
+    let low = (crc % 256) as u8;
+    (crc >> 8) ^ table::entry(low)
 }
