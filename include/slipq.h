@@ -38,7 +38,7 @@
  *   different images may run at once.
  *
  * Footprint
- *   text 25747, data 0, stack 1120: bytes, as examples/footprint measured them.
+ *   text 25599, data 0, stack 1152: bytes, as examples/footprint measured them.
  *   Nothing is allocated, and of the C library memcpy and memset are called.
  *
  * What every function answers

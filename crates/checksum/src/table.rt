@@ -2,14 +2,15 @@
 // x^(31-i). The number of the byte 128, whose one bit goes out last, is the polynomial itself: Castagnoli's. Stored slips depend on all of
 // them.
 //
-// It is a `match`, which is compiled to a table in read-only memory: an array would be stored on the stack each time.
+// A `match` is compiled to a table in read-only memory. An array would be stored on the stack every time.
 ghost use Rattle.paper.specs.Checksum.{dataPoly};
 ghost use Rattle.checksum.specs.Register.{Shifted};
 
 pub fn entry(low: u8) -> u32
     ensures { λ r. ⌜ Shifted 32 dataPoly low r ⌝ }
 {
-    // To the compiler a byte has a sign, and its table begins at the least: at 128. So do these arms, and it needs no sum to look a byte up.
+    // The compiler takes a byte for a number with a sign, and its table begins at the least, which is 128. So do these arms: otherwise every
+    // look-up would have an addition more.
     match low ^ 128 {
         0 => 0x82f6_3b78,
         1 => 0x709d_b87b,
