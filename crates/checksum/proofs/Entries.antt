@@ -32,6 +32,7 @@ module _ (d : ℕ) (es : List ℕ) (poly : ℕ) (small : poly < 2 ^ d) (same : m
       let more : i + suc n ≡ i + 1 + n = omega arith in
       rw more (turns-remain n (bit (c % 2) (mod-lt c (zero-lt-suc 1)) even odd) (omega arith))
 
+  -- eight of them
   turns-all : {c : ℕ} → c < 2 ^ d → Remains d es c (turns poly 8 c) 8
   turns-all h = turns-remain 8 (held-none d es h) (lit≤ tt)
 

@@ -2,7 +2,7 @@
 use Prim.Native.Nat.{ℕ, zero, suc, _*_, _/_, _%_}
 use Rattle.paper.specs.Poly.{_⊕_}
 
--- n turns of a bit loop: the low bit goes out, and as many times the divisor is added, whose lower terms are the bits of `poly`
+-- n turns of a bit loop: the low bit goes out, and where it is 1 `poly` is added, which holds the divisor's lower terms
 unfoldable pub turns : ℕ → ℕ → ℕ → ℕ
 turns poly zero c = c
 turns poly (suc n) c = turns poly n (c / 2 ⊕ c % 2 * poly)

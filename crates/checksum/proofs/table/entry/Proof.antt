@@ -66,9 +66,9 @@ same : body.s-2 ≡ switch (copy (place 2 [])) (arms 0 256)
 unfolding entry turns _⊕_
 same = refl
 
--- flipped twice
-flipped : (n : ℕ) → n ⊕ 128 ⊕ 128 ≡ n
-flipped n = rw (sum-assoc, sum-self, sum-zero)
+-- a top bit that is flipped twice is as it was
+flip-twice : (n : ℕ) → n ⊕ 128 ⊕ 128 ≡ n
+flip-twice n = rw (sum-assoc, sum-self, sum-zero)
 
 -- what is not below and not equal is above
 above : (k n : ℕ) → k ≤ n → (n ≡ k → ⊥) → k < n
@@ -157,7 +157,7 @@ module _ {M : Type 1} (𝓤 : URA M) (H : Heap 𝓤) (A : Atoms 𝓤) (W : Given
       through : (k n : ℕ) (N : Type 0) → (N → k ≤ flip) → flip < k + n → Cases Go W before C Λ E Then N (arms k n) flip
       through k zero N none h = λ m. let l : k ≤ flip = none m in absurd (omega arith)
       through k (suc n) N none h = (
-        λ e. let own : k ⊕ 128 ≡ low = rw (← e) (flipped low) in subst⁻¹ (λ (j : ℕ). Sq W before (runs C Λ E (gives j) Then)) own given,
+        λ e. let own : k ⊕ 128 ≡ low = rw (← e) (flip-twice low) in subst⁻¹ (λ (j : ℕ). Sq W before (runs C Λ E (gives j) Then)) own given,
         through (suc k) n (N × (flip ≡ k → ⊥)) (λ m. above k flip (none (m .0)) (m .1)) (omega arith),
       )
 
