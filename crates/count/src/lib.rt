@@ -13,10 +13,8 @@ ghost use Rattle.paper.specs.Counts.{longest, fitBy, fit, findMaxFit, space, sp
 ghost use Rattle.paper.specs.Calls.{eraseAll};
 ghost use Rattle.chip.specs.Within.{Good, Within};
 ghost use Rattle.chip.specs.Run.{Ran, Whole, under, unlessCut};
-ghost use Rattle.page.specs.Table.{Table};
 ghost use Rattle.count.specs.Counts.{countOf, countedAs, answered, emptyBy, SpaceIs};
 use chip::Budget;
-use chip::MAX_PAGES;
 use chip::Page;
 use chip::Spent;
 use item::Available;
@@ -82,18 +80,17 @@ fn find_max_fit_inner(image: &[u8], g: Geometry) -> Counted
     let youngest = page::find_youngest_page(table, g);
     match youngest {
         Chosen::Corrupted => Counted::Corrupted,
-        Chosen::At(current) => fit_from(image, g, table, current),
+        Chosen::At(current) => fit_from(image, g, current),
     }
 }
 
 // Space on the next page comes first; else the current page has what is behind its free spot.
-fn fit_from(image: &[u8], g: Geometry, table: [PageState; MAX_PAGES], current: Page) -> Counted
-    requires { ⌜ Within g (length (now image)) × (current .0 < g .pages) × Table g (now image) table ⌝ }
+fn fit_from(image: &[u8], g: Geometry, current: Page) -> Counted
+    requires { ⌜ Within g (length (now image)) × (current .0 < g .pages) ⌝ }
     ensures { λ r. ⌜ countedAs r ≡ fitBy g (now (image .entry)) (current .0) (state g (now (image .entry)) (next g (current .0))) ⌝ }
 {
     let next = page::next_page(g, current);
-    let i = next.0 as usize;
-    let state = table[i];
+    let state = page::get_page_state(image, g, next);
     match state {
         PageState::Closed => {
             if is_page_empty(image, g, next, state) {
@@ -152,17 +149,15 @@ fn space_by(counting: Counting) -> Space
     }
 }
 
-// The sum fits: it is below 64 times 2^32.
+// The sum fits: it is below 256 times 2^32.
 fn space_left_inner(image: &[u8], g: Geometry) -> Counted
     requires { ⌜ Within g (length (now image)) ⌝ }
     ensures { λ r. ⌜ countedAs r ≡ space g (now (image .entry)) ⌝ }
 {
-    let table = page::page_states(image, g);
     let mut total_free_space: usize = 0;
     let mut page_index = 0;
     while page_index < g.pages {
-        let i = page_index as usize;
-        let state = table[i];
+        let state = page::get_page_state(image, g, Page(page_index));
         if page::is_same(state, PageState::Corrupted) {
             return Counted::Corrupted;
         }

@@ -1,5 +1,6 @@
 pub mod Marks
-pub mod Tables
 pub mod Rings
+pub mod Reading
+pub mod Tables
 pub mod Searching
 pub mod Repairs

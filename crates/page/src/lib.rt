@@ -3,15 +3,15 @@
 ghost use mathlib.Core.Path.{_≡_};
 ghost use mathlib.Core.Bool.{cond};
 ghost use mathlib.Core.List.{[], _∷_};
-ghost use Prim.Native.Nat.{_+_, _-_, _≤_, _<_};
+ghost use Prim.Native.Nat.{ℕ, _+_, _-_, _≤_, _<_};
 ghost use lib.Count.{ones};
 ghost use lib.ListN.{length, replicate};
-ghost use Rattle.paper.specs.declared.PageState.the-variants.{Open, Closed};
+ghost use Rattle.paper.specs.declared.PageState.the-variants.{Open, PartialOpen, Closed};
 ghost use Rattle.paper.specs.Chip.{part, Event, erasePage, gives};
 ghost use Rattle.paper.specs.Pages.{isSet, stateBy, state, setStart, setEnd, rank, same, next, from, allPages, found, first, foundOr, openFrom, youngest, oldest, repairs, repair};
 ghost use Rattle.chip.specs.Within.{Good, Within};
 ghost use Rattle.chip.specs.Run.{Did};
-ghost use Rattle.page.specs.Table.{Table};
+ghost use Rattle.page.specs.Table.{Table, Covers, ReadFrom};
 ghost use Rattle.page.specs.Searches.{soughtAs, chosenAs, Sees};
 use chip::Address;
 use chip::Budget;
@@ -87,7 +87,7 @@ pub fn find_first_page(
     want: PageState,
 ) -> Sought
     requires { ⌜ Good g × (start .0 < g .pages) ⌝ }
-    ensures { λ r. ⌜ Sees g table found (soughtAs r) (λ im. first g im want (from g (start .0))) ⌝ }
+    ensures { λ r. ⌜ Sees g (λ im. Covers g im table want (from g (start .0))) found (soughtAs r) (λ im. first g im want (from g (start .0))) ⌝ }
 {
     let mut left = g.pages;
     let mut p = start;
@@ -119,20 +119,60 @@ pub fn next_page(g: Geometry, p: Page) -> Page
 
 // ---- marks and states
 
-// The states of one call, read once: the search for the oldest page looks at a state up to four times.
+// The states of one call, each read once and only as far as a search goes: the one for the youngest page ends at a PartialOpen page.
 pub fn page_states(image: &[u8], g: Geometry) -> [PageState; MAX_PAGES]
     requires { ⌜ Within g (length (now image)) ⌝ }
-    ensures { λ r. ⌜ Table g (now (image .entry)) r ⌝ }
+    ensures { λ r. ⌜ Covers g (now (image .entry)) r PartialOpen (allPages g) ⌝ }
 {
-    let mut table = [PageState::Open; MAX_PAGES];
-    let mut p = 0;
+    let unread = [PageState::Open; MAX_PAGES];
+    read_states(image, g, unread, 0, PageState::PartialOpen)
+}
+
+// The states behind the youngest page too, as far as the search for the oldest page goes: it ends at a Closed page. Where no page is
+// PartialOpen, all were read.
+fn states_behind(
+    image: &[u8],
+    g: Geometry,
+    table: [PageState; MAX_PAGES],
+    y: Page,
+) -> [PageState; MAX_PAGES]
+    requires { ⌜ Within g (length (now image)) × Covers g (now image) table PartialOpen (allPages g) × (youngest g (now image) ≡ gives (y .0)) × (y .0 < g .pages) ⌝ }
+    ensures { λ r. ⌜ Covers g (now (image .entry)) r Closed (from g (y .0)) ⌝ }
+{
+    let i = y.0 as usize;
+    let s = table[i];
+    if is_same(s, PageState::PartialOpen) {
+        return read_states(image, g, table, y.0 + 1, PageState::Closed);
+    }
+    table
+}
+
+// The table with the states of the pages from `start` on, up to the first where a search for `want` ends.
+fn read_states(
+    image: &[u8],
+    g: Geometry,
+    table: [PageState; MAX_PAGES],
+    start: u32,
+    want: PageState,
+) -> [PageState; MAX_PAGES]
+    requires { ⌜ Within g (length (now image)) × (start ≤ g .pages) ⌝ }
+    ensures { λ r. ⌜ ReadFrom g (now (image .entry)) table start want r ⌝ }
+{
+    let mut states = table;
+    let mut p = start;
     while p < g.pages {
         let s = get_page_state(image, g, Page(p));
         let i = p as usize;
-        table[i] = s;
+        states[i] = s;
+        if is_same(s, PageState::Corrupted) {
+            return states;
+        }
+        if is_same(s, want) {
+            return states;
+        }
         p += 1;
     }
-    table
+    states
 }
 
 pub fn get_page_state(image: &[u8], g: Geometry, p: Page) -> PageState
@@ -264,7 +304,7 @@ fn store_mark(image: &mut [u8], b: Budget, g: Geometry, at: Address) -> Spent
 
 pub fn find_youngest_page(table: [PageState; MAX_PAGES], g: Geometry) -> Chosen
     requires { ⌜ Good g ⌝ }
-    ensures { λ r. ⌜ Sees g table gives (chosenAs r) (youngest g) ⌝ }
+    ensures { λ r. ⌜ Sees g (λ im. Covers g im table PartialOpen (allPages g)) gives (chosenAs r) (youngest g) ⌝ }
 {
     let last_used = find_first_page(table, g, Page(0), PageState::PartialOpen);
     match last_used {
@@ -278,7 +318,7 @@ pub fn find_youngest_page(table: [PageState; MAX_PAGES], g: Geometry) -> Chosen
 // Open, and page 0 will do; with no Open page all are Closed, which is not correct.
 fn find_open_page(table: [PageState; MAX_PAGES], g: Geometry) -> Chosen
     requires { ⌜ Good g ⌝ }
-    ensures { λ r. ⌜ Sees g table gives (chosenAs r) (λ im. openFrom g im (first g im Closed (allPages g))) ⌝ }
+    ensures { λ r. ⌜ Sees g (λ im. Table g im table) gives (chosenAs r) (λ im. openFrom g im (first g im Closed (allPages g))) ⌝ }
 {
     let first_closed = find_first_page(table, g, Page(0), PageState::Closed);
     match first_closed {
@@ -291,15 +331,17 @@ fn find_open_page(table: [PageState; MAX_PAGES], g: Geometry) -> Chosen
     }
 }
 
-pub fn find_oldest_page(table: [PageState; MAX_PAGES], g: Geometry) -> Chosen
-    requires { ⌜ Good g ⌝ }
-    ensures { λ r. ⌜ Sees g table gives (chosenAs r) (oldest g) ⌝ }
+// The table is that of the search for the youngest page, and is read further from there.
+pub fn find_oldest_page(image: &[u8], table: [PageState; MAX_PAGES], g: Geometry) -> Chosen
+    requires { ⌜ Within g (length (now image)) × Covers g (now image) table PartialOpen (allPages g) ⌝ }
+    ensures { λ r. ⌜ (chosenAs r ≡ oldest g (now (image .entry))) × ((p : ℕ) → chosenAs r ≡ gives p → p < g .pages) ⌝ }
 {
     let youngest_page = find_youngest_page(table, g);
     match youngest_page {
         Chosen::Corrupted => Chosen::Corrupted,
         Chosen::At(y) => {
-            let oldest_closed = find_first_page(table, g, y, PageState::Closed);
+            let further = states_behind(image, g, table, y);
+            let oldest_closed = find_first_page(further, g, y, PageState::Closed);
             found_or(oldest_closed, Chosen::At(y))
         }
     }

@@ -138,7 +138,7 @@ fn find_start_address(image: &[u8], g: Geometry) -> Chosen
     ensures { λ r. ⌜ (chosenAs r ≡ oldest g (now (image .entry))) × ChosenIn g r ⌝ }
 {
     let table = page::page_states(image, g);
-    page::find_oldest_page(table, g)
+    page::find_oldest_page(image, table, g)
 }
 
 // QueueIterator::new: the states are read anew after a repair.

@@ -22,9 +22,8 @@ enum-known-youngest c = search needs
 fit-from-requires : tie.Need-fit-from-requires
 fit-from-requires c κs =
     let pre = c .before .before .before .before .before .before .pre in
-    let page-states = c .before .before .before .before .page-states in
     let find-youngest-page = c .before .before .before .find-youngest-page in
-    (pre, find-youngest-page .ensures .within _ (ap chosenAs (c .before .youngest .given .1)), page-states .ensures)
+    (pre, find-youngest-page .ensures .within _ (ap chosenAs (c .before .youngest .given .1)))
 
 returns : tie.Need-returns
 unfolding fit

@@ -11,27 +11,19 @@ use Rattle.count.proofs.space_left_inner.Statement.{statement}
 use Rattle.count.proofs.space_left_inner.Tie as tie
 
 abbrev Inv-loop : tie.InvT-loop
-Inv-loop image g table total₀ p₀ total p =
+Inv-loop image g total₀ p₀ total p =
     (p ≤ g .pages) × (total ≤ addressLimit * p) × (spaceOf g image (allPages g) ≡ plus total (spaceOf g image (around g (g .pages - p) p)))
 
 abbrev μ-loop : tie.MeasureT-loop
-μ-loop image g table total₀ p₀ total p = g .pages - p
-
-page-states-requires : tie.Need-page-states-requires Inv-loop μ-loop
-page-states-requires c κs = c .before .pre
+μ-loop image g total₀ p₀ total p = g .pages - p
 
 loop-holds : tie.Need-loop-holds Inv-loop μ-loop
-loop-holds c = (omega arith, omega arith, sum-first (c .before .before .args .g) (c .before .before .args .image .now))
+loop-holds c = (omega arith, omega arith, sum-first (c .before .args .g) (c .before .args .image .now))
 
-cast-i : tie.Need-cast-i Inv-loop μ-loop
-cast-i c =
-    let pre-good-sized-few = c .before .before .before .before .before .pre .good .sized .few in
-    omega (arith, pre-good-sized-few)
-
-array-copy-out-state : tie.Need-array-copy-out-state Inv-loop μ-loop
-array-copy-out-state c =
-    let pre-good-sized-few = c .before .before .before .before .before .pre .good .sized .few in
-    omega (arith, pre-good-sized-few)
+get-page-state-requires : tie.Need-get-page-state-requires Inv-loop μ-loop
+get-page-state-requires c κs =
+    let pre = c .before .before .before .before .pre in
+    (pre, omega arith)
 
 is-same-requires : tie.Need-is-same-requires Inv-loop μ-loop
 is-same-requires c κs = tt
@@ -39,41 +31,39 @@ is-same-requires c κs = tt
 returns : tie.Need-returns Inv-loop μ-loop
 unfolding space
 returns c =
-    let args-g = c .before .before .before .before .before .before .before .before .args .g in
-    let args-image-now = c .before .before .before .before .before .before .before .before .args .image .now in
-    let page-states-ensures-holds = c .before .before .before .before .before .before .page-states .ensures .holds in
+    let args-g = c .before .before .before .before .before .before .before .args .g in
+    let args-image-now = c .before .before .before .before .before .before .before .args .image .now in
     let l = c .before .before .before .before .before .loop in
-    let s = page-states-ensures-holds (l .page-index) (omega arith) in
+    let s = c .before .before .get-page-state .ensures in
     rw (l .inv .2 ∙ sum-fails args-g args-image-now (l .total-free-space) (l .page-index) (omega arith)
     (ap (λ x. same x Corrupted) (sym s) ∙ sym (c .before .is-same .ensures) ∙ c .if2 .taken))
 
 space-in-page-requires : tie.Need-space-in-page-requires Inv-loop μ-loop
 space-in-page-requires c κs =
-    let pre = c .before .before .before .before .before .before .before .before .pre in
+    let pre = c .before .before .before .before .before .before .before .pre in
     (pre, omega arith)
 
 add-total-free-space : tie.Need-add-total-free-space Inv-loop μ-loop
 add-total-free-space c =
-    let pre-good-sized-few = c .before .before .before .before .before .before .before .before .before .pre .good .sized .few in
+    let pre-good-sized-few = c .before .before .before .before .before .before .before .before .pre .good .sized .few in
     omega (arith, pre-good-sized-few, c .space-in-page .ensures .small)
 
 add-page-index : tie.Need-add-page-index Inv-loop μ-loop
 add-page-index c =
-    let pre-good-sized-few = c .before .before .before .before .before .before .before .before .before .pre .good .sized .few in
+    let pre-good-sized-few = c .before .before .before .before .before .before .before .before .pre .good .sized .few in
     omega (arith, pre-good-sized-few)
 
 loop-less : tie.Need-loop-less Inv-loop μ-loop
 loop-less c =
-    let pre-good-sized-few = c .before .before .before .before .before .before .before .before .before .pre .good .sized .few in
+    let pre-good-sized-few = c .before .before .before .before .before .before .before .before .pre .good .sized .few in
     omega (arith, pre-good-sized-few)
 
 loop-again : tie.Need-loop-again Inv-loop μ-loop
 loop-again c =
-    let a = c .before .before .before .before .before .before .before .before .before .args in
-    let page-states-ensures-holds = c .before .before .before .before .before .before .before .page-states .ensures .holds in
+    let a = c .before .before .before .before .before .before .before .before .args in
     let l = c .before .before .before .before .before .before .loop in
+    let s = c .before .before .before .get-page-state .ensures in
     let q = c .space-in-page .ensures .small in
-    let s = page-states-ensures-holds (l .page-index) (omega arith) in
     let e = c .space-in-page .ensures .is (sym (c .before .before .is-same .ensures) ∙ c .before .if2 .left) in (
       omega arith,
       omega arith,
@@ -84,8 +74,8 @@ loop-again c =
 returns-2 : tie.Need-returns-2 Inv-loop μ-loop
 unfolding space
 returns-2 c =
-    let args-g = c .before .before .before .before .before .args .g in
-    let args-image-now = c .before .before .before .before .before .args .image .now in
+    let args-g = c .before .before .before .before .args .g in
+    let args-image-now = c .before .before .before .before .args .image .now in
     let l = c .before .before .loop in
     rw (l .inv .2 ∙ sum-last args-g args-image-now (l .total-free-space) (l .page-index) (omega arith))
 
@@ -95,10 +85,8 @@ space-left-inner-spec =
     (tie.spec
     Inv-loop
     μ-loop
-    page-states-requires
     loop-holds
-    cast-i
-    array-copy-out-state
+    get-page-state-requires
     is-same-requires
     returns
     space-in-page-requires

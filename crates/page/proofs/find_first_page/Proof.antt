@@ -1,25 +1,25 @@
--- `page::find_first_page` meets its contract. The invariant, for every image whose table is at hand: the search of what is left, from here on,
--- answers as the search from the start. Assumes nothing.
+-- `page::find_first_page` meets its contract. The invariant, for every image that the table covers: it covers the search of what is left, from
+-- here on, which answers as the search from the start. Assumes nothing.
 use borrow.Author.Needs.{needs}
 use native.Mathlib.Omega.{arith}
 use mathlib.Core.Path.{_≡_, refl, sym, _∙_}
 use mathlib.Core.List.{List}
 use Prim.Native.Nat.{ℕ, _<_}
 use Rattle.paper.specs.Pages.{around, from, first}
-use Rattle.page.specs.Table.{Table}
-use Rattle.page.proofs.Searching.{first-failed, first-here, first-on, first-none}
+use Rattle.page.specs.Table.{Covers}
+use Rattle.page.proofs.Searching.{first-failed, first-here, first-on, first-covered, first-none}
 use Rattle.page.proofs.find_first_page.Statement.{statement}
 use Rattle.page.proofs.find_first_page.Tie as tie
 
 abbrev Inv-loop : tie.InvT-loop
-Inv-loop g want table left₀ p₀ left p = (p .0 < g .pages)
-    × ((im : List ℕ) → Table g im table → first g im want (around g left (p .0)) ≡ first g im want (around g left₀ (p₀ .0)))
+Inv-loop g want table left₀ p₀ left p = (p .0 < g .pages) × ((im : List ℕ) → Covers g im table want (around g left₀ (p₀ .0))
+    → Covers g im table want (around g left (p .0)) × (first g im want (around g left (p .0)) ≡ first g im want (around g left₀ (p₀ .0))))
 
 abbrev μ-loop : tie.MeasureT-loop
 μ-loop g want table left₀ p₀ left p = left
 
 loop-holds : tie.Need-loop-holds Inv-loop μ-loop
-loop-holds c = (c .pre .1, λ im tb. refl)
+loop-holds c = (c .pre .1, λ im m. (m, refl))
 
 cast-i : tie.Need-cast-i Inv-loop μ-loop
 cast-i c = omega arith
@@ -35,12 +35,13 @@ is-same-requires c κs = search needs
 returns : tie.Need-returns Inv-loop μ-loop
 unfolding from
 returns c =
-    let args-want = c .before .before .before .before .before .before .args .want in
+    let a = c .before .before .before .before .before .before .args in
     let l = c .before .before .before .before .before .loop in
     record {
-      is = λ im tb.
+      is = λ im m.
           let corrupted = sym (c .before .is-same .ensures) ∙ c .if1 .taken in
-          sym (first-failed tb args-want (l .left) (l .p .0) (omega arith) (l .inv .0) corrupted) ∙ l .inv .1 im tb;
+          let i = l .inv .1 im m in
+          sym (first-failed (a .g) im (a .t1) (a .want) (l .left) (l .p .0) (omega arith) (i .0) corrupted) ∙ i .1;
       within = λ p e. let z : _≡_ {A = ℕ} 0 1 = cc in absurd (omega arith);
     }
 
@@ -50,14 +51,15 @@ is-same-requires-2 c κs = search needs
 returns-2 : tie.Need-returns-2 Inv-loop μ-loop
 unfolding from
 returns-2 c =
-    let args-want = c .before .before .before .before .before .before .before .before .args .want in
+    let a = c .before .before .before .before .before .before .before .before .args in
     let l = c .before .before .before .before .before .before .before .loop in
     let is-same-ensures = c .before .before .before .is-same .ensures in
     record {
-      is = λ im tb.
+      is = λ im m.
           let fine = sym is-same-ensures ∙ c .before .before .if1 .left in
           let wanted = sym (c .before .is-same2 .ensures) ∙ c .if2 .taken in
-          sym (first-here tb args-want (l .left) (l .p .0) (omega arith) (l .inv .0) fine wanted) ∙ l .inv .1 im tb;
+          let i = l .inv .1 im m in
+          sym (first-here (a .g) im (a .t1) (a .want) (l .left) (l .p .0) (omega arith) (i .0) fine wanted) ∙ i .1;
       within = λ p e. let z : l .p .0 ≡ p = cc in omega arith;
     }
 
@@ -74,7 +76,7 @@ loop-less c = omega arith
 
 loop-again : tie.Need-loop-again Inv-loop μ-loop
 loop-again c =
-    let args-want = c .before .before .before .before .before .before .before .before .before .args .want in
+    let a = c .before .before .before .before .before .before .before .before .before .args in
     let l = c .before .before .before .before .before .before .before .before .loop in
     let is-same-ensures = c .before .before .before .before .is-same .ensures in
     let if1-left = c .before .before .before .if1 .left in
@@ -82,7 +84,12 @@ loop-again c =
     let fine = sym is-same-ensures ∙ if1-left in
     let other = sym (c .before .before .is-same2 .ensures) ∙ c .before .if2 .left in (
       c .next-page .ensures .1,
-      λ im tb. (rw e (sym (first-on tb args-want (l .left) (l .p .0) (omega arith) (l .inv .0) fine other) ∙ l .inv .1 im tb)),
+      λ im m.
+          let i = l .inv .1 im m in
+          (rw e (
+            first-covered (a .g) im (a .t1) (a .want) (l .left) (l .p .0) (omega arith) (i .0) fine other,
+            sym (first-on (a .g) im (a .t1) (a .want) (l .left) (l .p .0) (omega arith) (i .0) fine other) ∙ i .1,
+          )),
     )
 
 returns-3 : tie.Need-returns-3 Inv-loop μ-loop
@@ -90,7 +97,7 @@ unfolding from
 returns-3 c =
     let l = c .before .loop in
     record {
-      is = λ im tb. sym (first-none (c .before .before .args .g) im (c .before .before .args .want) (l .left) (l .p .0) (omega arith)) ∙ l .inv .1 im tb;
+      is = λ im m. sym (first-none (c .before .before .args .g) im (c .before .before .args .want) (l .left) (l .p .0) (omega arith)) ∙ l .inv .1 im m .1;
       within = λ p e. let z : _≡_ {A = ℕ} 0 1 = cc in absurd (omega arith);
     }
 

@@ -1,24 +1,16 @@
 -- `page::find_oldest_page` meets its contract. Each arm goes on with what the search for the youngest page answered. Assumes nothing.
 use borrow.Author.Needs.{needs}
 use native.Mathlib.Omega.{arith}
-use mathlib.Core.Path.{ap}
-use mathlib.Core.List.{List}
+use mathlib.Core.Path.{_≡_, sym, ap, _∙_}
 use Prim.Native.Nat.{ℕ}
-use Rattle.paper.specs.declared.Geometry.{Geometry}
-use Rattle.paper.specs.declared.PageState.the-variants.{Closed}
-use Rattle.paper.specs.Chip.{Try, gives, onGiven}
-use Rattle.paper.specs.Pages.{from, first, foundOr, oldest}
+use Rattle.paper.specs.Pages.{oldest}
 use Rattle.page.specs.Searches.{chosenAs}
-use Rattle.page.proofs.Searching.{sees-failed, sees-page, sees-on, sees-or}
+use Rattle.page.proofs.Searching.{seen, sees-page, sees-or}
 use Rattle.page.proofs.find_oldest_page.Statement.{statement}
 use Rattle.page.proofs.find_oldest_page.Tie as tie
 
--- what follows the search for the youngest page
-abbrev then : Geometry → List ℕ → Try Unit ℕ → Try Unit ℕ
-then g im x = onGiven x (λ y. foundOr (first g im Closed (from g y)) (gives y))
-
 find-youngest-page-requires : tie.Need-find-youngest-page-requires
-find-youngest-page-requires c κs = c .pre
+find-youngest-page-requires c κs = c .before .pre .0 .good
 
 enum-told : tie.Need-enum-told
 enum-told c = search needs
@@ -26,11 +18,18 @@ enum-told c = search needs
 enum-known-youngest-page : tie.Need-enum-known-youngest-page
 enum-known-youngest-page c = search needs
 
+states-behind-requires : tie.Need-states-behind-requires
+states-behind-requires c κs =
+    let pre = c .before .before .before .before .before .pre in
+    let s = c .before .before .before .find-youngest-page .ensures in
+    let e = ap chosenAs (c .before .youngest-page .given .1) in
+    (pre .0, pre .1, seen s e (pre .1), s .within _ e)
+
 find-first-page-requires : tie.Need-find-first-page-requires
 find-first-page-requires c κs =
-    let pre = c .before .before .before .before .pre in
-    let find-youngest-page-ensures-within = c .before .before .before .find-youngest-page .ensures .within in
-    (pre, omega (arith, find-youngest-page-ensures-within _ (ap chosenAs (c .before .youngest-page .given .1))))
+    let pre = c .before .before .before .before .before .before .pre in
+    let s = c .before .before .before .before .find-youngest-page .ensures in
+    (pre .0 .good, s .within _ (ap chosenAs (c .before .before .youngest-page .given .1)))
 
 found-or-requires : tie.Need-found-or-requires
 found-or-requires c κs = search needs
@@ -38,18 +37,20 @@ found-or-requires c κs = search needs
 returns : tie.Need-returns
 unfolding oldest
 returns c =
-    let args = c .before .before .before .args in
-    let e = ap chosenAs (c .enum-told .given .1) in
-    sees-on (then (args .g)) (c .before .before .find-youngest-page .ensures) e sees-failed
+    let pre = c .before .before .before .before .pre in
+    let s = c .before .before .find-youngest-page .ensures in
+    (rw (seen s (ap chosenAs (c .enum-told .given .1)) (pre .1)), λ p e. let z : _≡_ {A = ℕ} 0 1 = cc in absurd (omega arith))
 
 returns-2 : tie.Need-returns-2
 unfolding oldest
 returns-2 c =
-    let args = c .before .before .before .before .before .before .args in
-    let s = c .before .before .before .before .before .find-youngest-page .ensures in
-    let youngest-page = c .before .before .before .youngest-page in
+    let pre = c .before .before .before .before .before .before .before .before .pre in
+    let s = c .before .before .before .before .before .before .find-youngest-page .ensures in
+    let youngest-page = c .before .before .before .before .youngest-page in
     let e = ap chosenAs (youngest-page .given .1) in
-    sees-on (then (args .g)) s e (rw (c .found-or .ensures) (sees-or (c .before .find-first-page .ensures) (sees-page _ (s .within _ e))))
+    let covered = c .before .before .states-behind .ensures in
+    let r = sees-or (c .before .find-first-page .ensures) (sees-page _ (s .within _ e)) in
+    (c .found-or .ensures ∙ (rw (seen s e (pre .1)) (r .is _ covered)), λ p q. r .within p (sym (c .found-or .ensures) ∙ q))
 
 pub find-oldest-page-spec : {M : Type 1} → statement M
 find-oldest-page-spec =
@@ -58,6 +59,7 @@ find-oldest-page-spec =
     find-youngest-page-requires
     enum-told
     enum-known-youngest-page
+    states-behind-requires
     find-first-page-requires
     found-or-requires
     returns

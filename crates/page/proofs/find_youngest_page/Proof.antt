@@ -4,11 +4,12 @@ use mathlib.Core.Path.{ap}
 use mathlib.Core.List.{List}
 use Prim.Native.Nat.{ℕ}
 use Rattle.paper.specs.declared.Geometry.{Geometry}
-use Rattle.paper.specs.declared.PageState.the-variants.{Closed}
+use Rattle.paper.specs.declared.PageState.the-variants.{PartialOpen, Closed}
 use Rattle.paper.specs.Chip.{Try}
 use Rattle.paper.specs.Pages.{allPages, first, foundOr, openFrom, youngest, Found}
 use Rattle.page.specs.Searches.{soughtAs}
-use Rattle.page.proofs.Searching.{sees-failed, sees-page, sees-on}
+use Rattle.page.proofs.Reading.{all-read}
+use Rattle.page.proofs.Searching.{sees-failed, sees-page, sees-by, sees-on}
 use Rattle.page.proofs.find_youngest_page.Statement.{statement}
 use Rattle.page.proofs.find_youngest_page.Tie as tie
 
@@ -54,7 +55,8 @@ returns-3 c =
     let args = c .before .before .before .before .args in
     let find-first-page = c .before .before .before .find-first-page in
     let e = ap soughtAs (c .before .enum-told2 .given .1) in
-    sees-on (then (args .g)) (find-first-page .ensures) e (c .find-open-page .ensures)
+    sees-on (then (args .g)) (find-first-page .ensures) e
+    (sees-by (λ im k. all-read (args .g) im (args .table) PartialOpen (k .0) (k .1)) (c .find-open-page .ensures))
 
 pub find-youngest-page-spec : {M : Type 1} → statement M
 find-youngest-page-spec =

@@ -6,10 +6,10 @@ page-states-requires : tie.Need-page-states-requires
 page-states-requires c κs = c .before .pre
 
 find-oldest-page-requires : tie.Need-find-oldest-page-requires
-find-oldest-page-requires c κs = c .before .before .pre .good
+find-oldest-page-requires c κs = (c .before .before .pre, c .page-states .ensures)
 
 returns : tie.Need-returns
-returns c = (c .find-oldest-page .ensures .is _ (c .before .page-states .ensures), c .find-oldest-page .ensures .within)
+returns c = c .find-oldest-page .ensures
 
 pub find-start-address-spec : {M : Type 1} → statement M
 find-start-address-spec =
