@@ -33,9 +33,9 @@ pub struct Spent {
 // The limits of this port: the longest word, in bytes, as in the Rust ..
 pub const MAX_WORD_SIZE: usize = 32;
 // .. the longest page, in bytes, and the most pages.
-const MAX_PAGE_SIZE: u32 = 4096;
+const MAX_PAGE_SIZE: u32 = 65536;
 
-pub const MAX_PAGES: usize = 64;
+pub const MAX_PAGES: usize = 256;
 
 // ---- the check
 

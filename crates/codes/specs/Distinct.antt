@@ -17,7 +17,7 @@ Small bound (r ∷ value ∷ more) = value < bound
 abbrev pub ToldApart : {A : Type 0} → ℕ → (A → Answer) → Type 0
 ToldApart {A} bound f = (x y : A) → Small bound (numbers (f x)) → Small bound (numbers (f y)) → codeOf (f x) ≡ codeOf (f y) → x ≡ y
 
--- Lengths are at most 65,535 and sizes at most 64 pages of 4,096 bytes: far below these bounds.
+-- Lengths are at most 65,535 and sizes at most 256 pages of 65,536 bytes, 2^24: far below these bounds.
 pub record Distinct : Type 0 where
   pub pushed : ToldApart (2 ^ 32) pushedAs
   pub shown : ToldApart (2 ^ 32) shownAs

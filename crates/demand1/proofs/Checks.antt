@@ -16,7 +16,7 @@ use Rattle.paper.specs.declared.Refusal.{Refusal}
 use Rattle.paper.specs.declared.Refusal.the-variants as refusal
 use Rattle.paper.specs.Chip.{roundUp}
 use Rattle.paper.specs.Refusals as paper
-use Rattle.paper.specs.Refusals.{Rule, rules, judge, check, allowedWord, geometryOf, pageCount}
+use Rattle.paper.specs.Refusals.{Rule, rules, judge, check, allowedWord, geometryOf, pageCount, pageLimit, pageCountLimit}
 use Rattle.paper.specs.Calls.{planned, call, planOf, requested}
 use Rattle.demand1.specs.Shapes.{Iff, rowNumber, Broken, OfShape}
 use Rattle.demand1.proofs.Lists.{never}
@@ -70,7 +70,7 @@ module _ (n : ℕ) (s : Shape) where
       (row 15 refl refl (tells-same none-of each-not
       (tells-not (tells-or (tells-or (tells-or (tells-eq (s .word) 4) (tells-eq (s .word) 8)) (tells-eq (s .word) 16))
       (tells-eq (s .word) 32))))
-      (row 16 refl refl (tells-or (tells-lt 4096 (s .page)) (tells-lt 64 ((s .end - s .start) / s .page)))
+      (row 16 refl refl (tells-or (tells-lt pageLimit (s .page)) (tells-lt pageCountLimit ((s .end - s .start) / s .page)))
       (row 17 refl refl (tells-lt n (s .end)) none))))))))
     where
       none-of : ((((s .word ≡ 4) ⊎ (s .word ≡ 8)) ⊎ (s .word ≡ 16)) ⊎ (s .word ≡ 32) → ⊥)

@@ -22,7 +22,7 @@ unfoldable pub rowNumber : Refusal → ℕ
 rowNumber r = getD (row r) 0 0
 
 -- what a row says of a shape, over an image of n bytes: 9 "page or word is 0, or page not a multiple of word"; 10 to 14 "as try_new", with
--- "an end below its start is 12"; 15 "word not 4, 8, 16 or 32"; 16 "page over 4,096, or over 64 pages"; 17 "range end beyond the image"
+-- "an end below its start is 12"; 15 "word not 4, 8, 16 or 32"; 16 "page over 65,536, or over 256 pages"; 17 "range end beyond the image"
 abbrev pub Broken : ℕ → Shape → Refusal → Type 0
 Broken n s refusal.ItemTooBig = ⊥
 Broken n s refusal.FullStorage = ⊥
@@ -36,7 +36,7 @@ Broken n s refusal.RangeTooSmall = s .end < s .start + s .page
 Broken n s refusal.PagesTooSmall = s .page < 3 * s .word + roundUp (s .word) 8
 Broken n s refusal.WordSizeTooLarge = 32 < s .word
 Broken n s refusal.BadWord = (s .word ≡ 4 → ⊥) × (s .word ≡ 8 → ⊥) × (s .word ≡ 16 → ⊥) × (s .word ≡ 32 → ⊥)
-Broken n s refusal.TooLarge = (4096 < s .page) ⊎ (64 < (s .end - s .start) / s .page)
+Broken n s refusal.TooLarge = (65536 < s .page) ⊎ (256 < (s .end - s .start) / s .page)
 Broken n s refusal.OutsideImage = n < s .end
 
 pub record OfShape : Type 0 where

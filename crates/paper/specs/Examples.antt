@@ -127,7 +127,9 @@ table =
     expect (places (push (tiny 2) (pushing 2 (1 ∷ []) (blanks 40)) (2 ∷ []) false .events)) (16 ∷ 20 ∷ 24 ∷ 28 ∷ 32 ∷ []) ∷
     -- each row of the check, with later rows broken too where they can be
     expect (checked 0 16 40 32 5 ++ (checked 0 16 40 32 4 ++ (checked 0 32 40 32 4 ++ (checked 0 64 32 32 4 ++ checked 0 0 192 192 64)))) (9 ∷ 10 ∷ 11 ∷ 12 ∷ 13 ∷ []) ∷
-    expect (checked 0 0 8192 8192 64 ++ (checked 0 0 8400 8400 6 ++ (checked 0 0 8192 8192 4 ++ (checked 0 0 1300 20 4 ++ checked 1279 0 1280 20 4)))) (14 ∷ 15 ∷ 16 ∷ 16 ∷ 17 ∷ []) ∷
+    expect (checked 0 0 65600 65600 64 ++ (checked 0 0 65538 65538 6 ++ (checked 0 0 65540 65540 4 ++ (checked 0 0 5140 20 4 ++ checked 5119 0 5120 20 4)))) (14 ∷ 15 ∷ 16 ∷ 16 ∷ 17 ∷ []) ∷
+    -- the largest page, the most pages, and both at the top of the addresses
+    expect (checked 65536 0 65536 65536 4 ++ (checked 5120 0 5120 20 4 ++ checked 0xffff_0000 0xfeff_0000 0xffff_0000 65536 4)) (0 ∷ 0 ∷ 0 ∷ []) ∷
     -- find_max_fit on a single page after a push; space_left over two pages
     expect (says (findMaxFit large five)) (5 ∷ []) ∷
     expect (says (spaceLeft (tiny 2) firstPopped)) (0 ∷ 12 ∷ []) ∷ []

@@ -29,12 +29,12 @@ allowedWord w = eqb w 4 || eqb w 8 || eqb w 16 || eqb w 32
 abbrev pub wordLimit : ℕ
 wordLimit = 32
 
--- "page over 4,096, or over 64 pages"
+-- "page over 65,536, or over 256 pages", as 4/14 amends it
 abbrev pub pageLimit : ℕ
-pageLimit = 4096
+pageLimit = 65536
 
 abbrev pub pageCountLimit : ℕ
-pageCountLimit = 64
+pageCountLimit = 256
 
 -- "length over 65,535"
 abbrev pub lengthLimit : ℕ
