@@ -1,7 +1,7 @@
 //! Fills an image with slips and empties it again, by libdock.a and by the unchanged crate without a cache; `bench/run` says how it is
 //! built and asked.
 //!
-//!     speed time ROUNDS                          the times of both, for words 4 to 32, and their ratios
+//!     speed time ROUNDS PAGE                     the times of both over 256 KiB, for words 4 to 32, and their ratios
 //!     speed WHAT SIDE WORD PAGE PAGES            one side alone, for a counter of instructions; prints pushes, pops and a hash
 //!
 //! WHAT is `none` (no call at all), `fill` or `both`; SIDE is `ours` or `crate`.
@@ -277,17 +277,24 @@ fn clock() -> u64 {
 type Round = fn(bool, What, usize, &[[u8; SLIP]], &mut [u8]) -> (Came, Took);
 
 /// The shapes in use, by word and page.
-const SHAPES: [(usize, usize, Round); 6] = [
+const SHAPES: [(usize, usize, Round); 13] = [
     (4, 4096, Bench::<4, 4096>::round),
     (8, 4096, Bench::<8, 4096>::round),
     (16, 4096, Bench::<16, 4096>::round),
     (32, 4096, Bench::<32, 4096>::round),
     (4, 1024, Bench::<4, 1024>::round),
+    (8, 1024, Bench::<8, 1024>::round),
+    (16, 1024, Bench::<16, 1024>::round),
+    (32, 1024, Bench::<32, 1024>::round),
+    (4, 65536, Bench::<4, 65536>::round),
+    (8, 65536, Bench::<8, 65536>::round),
+    (16, 65536, Bench::<16, 65536>::round),
+    (32, 65536, Bench::<32, 65536>::round),
     (4, 256, Bench::<4, 256>::round),
 ];
 
-const PAGES: usize = 64;
-const MOST: usize = PAGES * 4096;
+/// The image of all times: 64 pages of 4,096 bytes, 256 of 1,024 or 4 of 65,536.
+const SIZE: usize = 256 * 1024;
 
 fn median(mut values: Vec<f64>) -> f64 {
     values.sort_by(f64::total_cmp);
@@ -295,20 +302,20 @@ fn median(mut values: Vec<f64>) -> f64 {
 }
 
 /// Both sides by turns, each first in every other round. The ratio is the median of the ratios of the rounds.
-fn time(rounds: usize) {
-    let slips = slips(MOST / SLIP);
-    let mut image = vec![0xff; MOST];
-    println!(
-        "word slips | push ns: ours crate ratio | pop ns: ours crate ratio | both: ratio (rounds: {rounds})"
-    );
-    for (word, _, round) in &SHAPES[..4] {
+fn time(rounds: usize, page: usize) {
+    let slips = slips(SIZE / SLIP);
+    let mut image = vec![0xff; SIZE];
+    let pages = SIZE / page;
+    println!("pages of {page}: {pages}; rounds: {rounds}");
+    println!("word slips | push ns: ours crate ratio | pop ns: ours crate ratio | both: ratio");
+    for (word, _, round) in SHAPES.iter().filter(|shape| shape.1 == page) {
         let mut times = Vec::new();
         let mut came = Came::default();
         for r in 0..rounds {
             let mut both = [(Came::default(), Took::default()); 2];
             for turn in 0..2 {
                 let side = (r + turn) % 2;
-                both[side] = round(side == 0, What::Both, PAGES, &slips, &mut image);
+                both[side] = round(side == 0, What::Both, pages, &slips, &mut image);
             }
             assert!(
                 both[0].0 == both[1].0,
@@ -351,7 +358,7 @@ fn main() {
     let words: Vec<&str> = arguments.iter().map(String::as_str).collect();
     let number = |text: &str| text.parse::<usize>().expect("a number");
     match words[..] {
-        ["time", rounds] => time(number(rounds)),
+        ["time", rounds, page] => time(number(rounds), number(page)),
         [what, side, word, page, pages] => {
             let what = match what {
                 "none" => What::Nothing,
@@ -366,6 +373,8 @@ fn main() {
             };
             one(what, is_ours, number(word), number(page), number(pages));
         }
-        _ => panic!("usage: speed time ROUNDS | speed none|fill|both ours|crate WORD PAGE PAGES"),
+        _ => panic!(
+            "usage: speed time ROUNDS PAGE | speed none|fill|both ours|crate WORD PAGE PAGES"
+        ),
     }
 }
