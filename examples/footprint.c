@@ -11,13 +11,12 @@
 
 #define STACK (256 * 1024)
 #define PAINT 0xA5
-#define PAGE 4096
-#define MOST_PAGES 64
+#define SMALL_PAGE 256
 
 static uint8_t stack[STACK];
-static uint8_t image[MOST_PAGES * PAGE];
-static uint8_t buffer[PAGE];
-static uint8_t slip[PAGE];
+static uint8_t image[4 * SLIPQ_LARGEST_PAGE];
+static uint8_t buffer[SLIPQ_LARGEST_PAGE];
+static uint8_t slip[SLIPQ_LARGEST_PAGE];
 static ucontext_t caller;
 static ucontext_t callee;
 
@@ -32,7 +31,7 @@ static uint32_t drawn(uint32_t below) {
 /* Any of the calls, whole or cut. */
 static void any_call(const slipq_geometry *g) {
     size_t limit = drawn(2) ? drawn(40) : 100000;
-    size_t length = drawn(8) ? drawn(80) : drawn(PAGE);
+    size_t length = drawn(8) ? drawn(80) : drawn(g->page);
 
     switch (drawn(9)) {
     case 0: slipq_peek_limited(image, sizeof image, g, buffer, sizeof buffer, limit); break;
@@ -46,16 +45,16 @@ static void any_call(const slipq_geometry *g) {
     }
 }
 
-/* Histories at every word and at 1, 2 and 64 pages, with a byte damaged now and then. */
+/* Histories at every word, with few small pages and the most, and with few of the largest; a byte is damaged now and then. */
 static void histories(void) {
-    static const uint32_t pages[] = {1, 2, MOST_PAGES};
+    static const uint32_t pages[] = {1, 2, SLIPQ_MOST_PAGES, 1, 2, 4};
     slipq_geometry g = {0, 0, 0, 0};
     uint32_t shape, i;
 
     for (shape = 0; shape < 24; shape++) {
         g.word = 4u << shape % 4;
-        g.page = shape < 12 ? 256 : PAGE;
-        g.end = pages[shape / 4 % 3] * g.page;
+        g.page = shape < 12 ? SMALL_PAGE : SLIPQ_LARGEST_PAGE;
+        g.end = pages[shape / 4] * g.page;
         memset(image, 0xFF, sizeof image);
         for (i = 0; i < 1500; i++) {
             if (drawn(100) == 0)

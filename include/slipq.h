@@ -38,7 +38,7 @@
  *   different images may run at once.
  *
  * Footprint
- *   text 25599, data 0, stack 1152: bytes, as examples/footprint measured them.
+ *   text 26014, data 0, stack 1728: bytes, as examples/footprint measured them.
  *   Nothing is allocated, and of the C library memcpy and memset are called.
  *
  * What every function answers
@@ -69,7 +69,7 @@ extern "C" {
 #endif
 
 /* This header's version, as text and as a number that grows: 10000 * major + 100 * minor + patch. */
-#define SLIPQ_VERSION "0.2.0"
+#define SLIPQ_VERSION "0.3.0"
 #define SLIPQ_VERSION_NUMBER 200
 
 /* Where the queue lives in the image; all in bytes. */
@@ -79,6 +79,10 @@ typedef struct slipq_geometry {
     uint32_t page;  /* a page: what is erased at once */
     uint32_t word;  /* a word: what is written at once */
 } slipq_geometry;
+
+/* The most bytes of a page, and the most pages of a range. */
+#define SLIPQ_LARGEST_PAGE 65536u
+#define SLIPQ_MOST_PAGES 256u
 
 /* C++ can be told to warn of C's casts, also where a macro has them. */
 #ifdef __cplusplus
@@ -110,7 +114,7 @@ typedef struct slipq_geometry {
 #define SLIPQ_PAGES_TOO_SMALL 13u                 /* page under 3 words + header */
 #define SLIPQ_WORD_SIZE_TOO_LARGE 14u             /* word over 32 */
 #define SLIPQ_BAD_WORD 15u                        /* word not 4, 8, 16 or 32 */
-#define SLIPQ_TOO_LARGE 16u                       /* page over 4096, or over 64 pages */
+#define SLIPQ_TOO_LARGE 16u                       /* page over SLIPQ_LARGEST_PAGE, or pages over SLIPQ_MOST_PAGES */
 #define SLIPQ_OUTSIDE_IMAGE 17u                   /* the range ends beyond the image */
 
 /* slipq_page_state and slipq_item alone: there is no such page, or no such address in its data. Document 01 has no such row. */

@@ -13,7 +13,7 @@ const char *slipq_header_texts(uint64_t answer, int is_version) {
 }
 
 uint32_t slipq_header_numbers(uint64_t answer, size_t length) {
-    static const slipq_geometry geometry = {0, 1024, 256, 4};
+    static const slipq_geometry geometry = {0, SLIPQ_MOST_PAGES * SLIPQ_LARGEST_PAGE, SLIPQ_LARGEST_PAGE, 4};
     uint32_t value = SLIPQ_VALUE(answer);
 
     if (SLIPQ_ROW(slipq_check(length, &geometry)) != SLIPQ_DONE || value == SLIPQ_NO_FIT)

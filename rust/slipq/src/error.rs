@@ -1,4 +1,5 @@
 //! The refusals, by document 01's rows.
+use crate::Shape;
 use core::fmt::{Display, Formatter, Result as Formatted};
 
 /// What a call on a [`Queue`](crate::Queue) refuses.
@@ -50,7 +51,7 @@ impl Display for Error {
 
 impl core::error::Error for Error {}
 
-/// Why a [`Shape`](crate::Shape) is refused. Of several reasons the first in this order is given.
+/// Why a [`Shape`] is refused. Of several reasons the first in this order is given.
 #[derive(Clone, Copy, Debug, PartialEq, Eq)]
 #[non_exhaustive]
 pub enum ShapeError {
@@ -68,7 +69,7 @@ pub enum ShapeError {
     WordSizeTooLarge,
     /// The word is not 4, 8, 16 or 32.
     BadWord,
-    /// The page is larger than 4,096, or there are more than 64 pages.
+    /// The page is larger than [`Shape::LARGEST_PAGE`], or there are more pages than [`Shape::MOST_PAGES`].
     TooLarge,
     /// The range ends beyond the image.
     OutsideImage,
@@ -120,7 +121,13 @@ impl Display for ShapeError {
             ShapeError::PagesTooSmall => "the page is smaller than three words and a header",
             ShapeError::WordSizeTooLarge => "the word is larger than 32",
             ShapeError::BadWord => "the word is not 4, 8, 16 or 32",
-            ShapeError::TooLarge => "the page is larger than 4096, or there are more than 64 pages",
+            ShapeError::TooLarge => {
+                let (page, pages) = (Shape::LARGEST_PAGE, Shape::MOST_PAGES);
+                return write!(
+                    f,
+                    "the page is larger than {page}, or there are more than {pages} pages"
+                );
+            }
             ShapeError::OutsideImage => "the range ends beyond the image",
         })
     }

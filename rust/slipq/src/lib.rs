@@ -58,6 +58,12 @@ pub struct Shape {
 }
 
 impl Shape {
+    /// The most bytes that a page has.
+    pub const LARGEST_PAGE: u32 = 65_536;
+
+    /// The most pages that a range has.
+    pub const MOST_PAGES: u32 = 256;
+
     /// A range of so many pages from address 0 on. An end past 32 bits becomes the largest number, which the check refuses.
     ///
     /// ```

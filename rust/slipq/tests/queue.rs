@@ -150,9 +150,11 @@ fn shapes_are_refused_in_order() {
         (0, 96, 96, 32, ShapeError::PagesTooSmall),
         (0, 256, 256, 64, ShapeError::WordSizeTooLarge),
         (0, 32, 32, 2, ShapeError::BadWord),
-        (0, 8192, 8192, 4, ShapeError::TooLarge),
-        (0, 65 * 32, 32, 4, ShapeError::TooLarge),
+        (0, 65_540, 65_540, 4, ShapeError::TooLarge),
+        (0, 257 * 32, 32, 4, ShapeError::TooLarge),
         (0, 64, 32, 4, ShapeError::OutsideImage),
+        (0, 65_536, 65_536, 4, ShapeError::OutsideImage),
+        (0, 256 * 32, 32, 4, ShapeError::OutsideImage),
     ];
     for (start, end, page, word, error) in all {
         let shape = Shape {

@@ -1,23 +1,27 @@
 //! Which shapes an image reads well in.
 //!
 //! A shape is tried page by page: what marks and whole items take speaks for it, what is torn against it, and what is neither FF nor
-//! readable twice. Tried are pages that divide the file, and powers of two; all of the file, and where that is too long or reads badly, the
-//! pages in a row that speak for the shape the most.
+//! readable twice. Tried are pages that divide the file, and powers of two; all of the file, and where that is long or reads badly, the pages
+//! in a row that speak for the shape the most.
 use crate::arguments::Words;
 use crate::failure::Failure;
 use crate::file::{read_shape_file, unread};
-use crate::page::{Page, is_erased};
+use crate::page::{Page, is_uniform};
 use crate::shape::{Numbers, options};
 use crate::show::{counted, say};
 use slipq::{Item, ItemState, PageState, Queue, Shape};
+use std::cmp::Reverse;
+use std::iter;
 use std::ops::Range;
 use std::path::Path;
 
 const WORDS: [u32; 4] = [4, 8, 16, 32];
-const LARGEST_PAGE: u32 = 4096;
-const MOST_PAGES: usize = 64;
-/// How many shapes are shown.
-const MOST_SHOWN: usize = 8;
+const MOST_PAGES: usize = Shape::MOST_PAGES as usize;
+/// A file of more pages may well hold more than the queue: erased pages at its ends speak neither for that nor against it.
+const FEW_PAGES: usize = 64;
+/// How many shapes are shown. Where one page is written, its slips do not tell the twelve powers of two from 32 to 65,536 apart, and for
+/// some of them there are two ranges.
+const MOST_SHOWN: usize = 16;
 
 /// What was read in one shape.
 #[derive(Clone, Copy, Debug, Default, PartialEq, Eq)]
@@ -42,18 +46,15 @@ impl Reading {
         })
     }
 
-    /// Reads one page. Its marks are looked at first: most pages of a wrong shape fail there.
-    fn of_page(image: &mut [u8], shape: Shape) -> Reading {
-        let bytes = &image[shape.start as usize..shape.end as usize];
-        if is_erased(bytes) {
+    /// Reads one page, of whose bytes so many are not FF. Its start mark is looked at first: most pages of a wrong shape fail there.
+    fn of_page(image: &mut [u8], shape: Shape, written: usize) -> Reading {
+        if written == 0 {
             return Reading::default();
         }
-        let strange = bytes.iter().filter(|byte| **byte != 0xff).count();
-        let start_mark = &bytes[..shape.word as usize];
-        if !is_erased(start_mark) && start_mark.iter().any(|byte| *byte != 0) {
+        if !is_uniform(&image[shape.start as usize..][..shape.word as usize]) {
             return Reading {
-                unreadable: strange,
-                score: -2 * strange as i64,
+                unreadable: written,
+                score: -2 * written as i64,
                 ..Reading::default()
             };
         }
@@ -91,7 +92,8 @@ pub fn guess(words: Words) -> Result<(), Failure> {
     // powers of two first where the slips do not decide: most chips have such pages
     found.sort_by_key(|(shape, reading)| {
         let is_likely = shape.page.is_power_of_two();
-        (-reading.score, !is_likely, shape.page, shape.word)
+        let pages = Reverse(shape.pages());
+        (-reading.score, !is_likely, shape.page, shape.word, pages)
     });
     let Some(best) = found.first().map(|(_, reading)| reading.score) else {
         return Err(Failure::NoShape(format!(
@@ -149,6 +151,7 @@ fn line(reading: &Reading) -> String {
 fn readings(image: &mut [u8], given: Numbers) -> Vec<(Shape, Reading)> {
     let mut found = vec![];
     for page in page_sizes(image.len(), given) {
+        let written = written(image, page);
         for word in WORDS
             .into_iter()
             .filter(|word| given.word.is_none_or(|given| given == *word))
@@ -156,10 +159,17 @@ fn readings(image: &mut [u8], given: Numbers) -> Vec<(Shape, Reading)> {
             let is_well = |(_, reading): &(Shape, Reading)| {
                 reading.score > 0 && reading.waiting + reading.popped > 0
             };
-            found.extend(reading(image, given, page, word).filter(is_well));
+            let with_word = of_pages(image, given, page, word, &written).unwrap_or_default();
+            found.extend(with_word.into_iter().filter(is_well));
         }
     }
     found
+}
+
+/// How many bytes of each page are not FF. They are counted once for all words.
+fn written(image: &[u8], page: u32) -> Vec<usize> {
+    let count = |bytes: &[u8]| bytes.iter().filter(|byte| **byte != 0xff).count();
+    image.chunks(page.max(1) as usize).map(count).collect()
 }
 
 fn page_sizes(length: usize, given: Numbers) -> Vec<u32> {
@@ -171,53 +181,62 @@ fn page_sizes(length: usize, given: Numbers) -> Vec<u32> {
         let divides = length.is_multiple_of(*page as usize) && pages <= MOST_PAGES;
         pages > 0 && (divides || page.is_power_of_two())
     };
-    (20..=LARGEST_PAGE).step_by(4).filter(is_likely).collect()
+    (20..=Shape::LARGEST_PAGE)
+        .step_by(4)
+        .filter(is_likely)
+        .collect()
 }
 
-/// The best reading with this page and word, over all of the file or a part of it.
-fn reading(image: &mut [u8], given: Numbers, page: u32, word: u32) -> Option<(Shape, Reading)> {
+/// The readings with this page and word, over all of the file or a part of it; none where the two do not go together.
+fn of_pages(
+    image: &mut [u8],
+    given: Numbers,
+    page: u32,
+    word: u32,
+    written: &[usize],
+) -> Option<Vec<(Shape, Reading)>> {
     let whole = Numbers {
         page: Some(page),
         word: Some(word),
         ..given
     };
     let all = Numbers::shape(whole, Numbers::default(), image.len()).ok()?;
-    let one = |number: u32| Shape {
-        start: all.start + number * page,
-        end: all.start + (number + 1) * page,
-        ..all
-    };
     if page == 0 || all.pages() == 0 || all.end as usize > image.len() {
         return None;
     }
-    one(0).check(image.len()).ok()?;
-    let numbers = 0..all.pages();
-    let pages: Vec<Reading> = numbers
-        .map(|number| Reading::of_page(image, one(number)))
-        .collect();
-    let range = match given.pages {
-        Some(_) => 0..pages.len(),
-        None => range(&pages),
-    };
-    let shape = Shape {
-        start: one(range.start as u32).start,
+    let part = |range: &Range<usize>| Shape {
+        start: all.start + range.start as u32 * page,
         end: all.start + range.end as u32 * page,
         ..all
     };
+    part(&(0..1)).check(image.len()).ok()?;
+    // the start is a multiple of the page: that was checked
+    let written = &written[(all.start / page) as usize..][..all.pages() as usize];
+    let of_page = |(number, written): (usize, &usize)| {
+        Reading::of_page(image, part(&(number..number + 1)), *written)
+    };
+    let pages: Vec<Reading> = written.iter().enumerate().map(of_page).collect();
+    let mut ranges = match given.pages {
+        Some(_) => iter::once(0..pages.len()).collect(),
+        None => ranges(&pages),
+    };
     // more pages may be given than a queue has
-    shape.check(image.len()).ok()?;
-    Some((shape, Reading::of(&pages[range])))
+    ranges.retain(|range| part(range).check(image.len()).is_ok());
+    let read = |range: Range<usize>| (part(&range), Reading::of(&pages[range]));
+    Some(ranges.into_iter().map(read).collect())
 }
 
-/// The whole file, if it can be a range and a part of it does not read much better.
-fn range(pages: &[Reading]) -> Range<usize> {
-    let run = best_run(pages);
-    let score = |range: Range<usize>| Reading::of(&pages[range]).score;
-    let is_whole = pages.len() <= MOST_PAGES && 2 * score(0..pages.len()) >= score(run.clone());
-    if is_whole { 0..pages.len() } else { run }
+/// The whole file, if it can be a range and a part of it does not read much better. That part, if it is not so, or if the file is long.
+fn ranges(pages: &[Reading]) -> Vec<Range<usize>> {
+    let (whole, run) = (0..pages.len(), best_run(pages));
+    let score = |range: &Range<usize>| Reading::of(&pages[range.clone()]).score;
+    let is_whole = pages.len() <= MOST_PAGES && 2 * score(&whole) >= score(&run);
+    let is_part = !is_whole || pages.len() > FEW_PAGES && run != whole;
+    let whole = is_whole.then_some(whole);
+    whole.into_iter().chain(is_part.then_some(run)).collect()
 }
 
-/// The pages in a row, at most 64, with the highest score together: a run is given up where it no longer speaks for the shape.
+/// The pages in a row, at most as many as a queue has, with the highest score together: a run is given up where it no longer speaks for the shape.
 fn best_run(pages: &[Reading]) -> Range<usize> {
     let (mut best, mut best_score) = (0..0, 0);
     let (mut start, mut score) = (0, 0);
@@ -248,6 +267,21 @@ mod tests {
         };
         assert_eq!(best_run(&pages(&[-9, 5, -2, 6, 0, -9, 7])), 1..4);
         assert_eq!(best_run(&pages(&[-1, 0])), 0..0);
-        assert_eq!(best_run(&pages(&[1; 70])), 0..64);
+        assert_eq!(best_run(&pages(&[1; MOST_PAGES + 6])), 0..MOST_PAGES);
+    }
+
+    #[test]
+    fn of_a_long_file_a_part_is_tried_too() {
+        let pages = |erased: usize| -> Vec<Reading> {
+            let page = |number: usize| Reading {
+                score: i64::from(number < 3),
+                ..Reading::default()
+            };
+            (0..3 + erased).map(page).collect()
+        };
+        assert_eq!(ranges(&pages(1)), iter::once(0..4).collect::<Vec<_>>());
+        assert_eq!(ranges(&pages(100)), [0..103, 0..3]);
+        assert_eq!(ranges(&pages(253)), [0..256, 0..3]);
+        assert_eq!(ranges(&pages(254)), iter::once(0..3).collect::<Vec<_>>());
     }
 }

@@ -85,7 +85,9 @@ pub const ERASE: &str = "  erase FILE              erases the whole range
     --force                 though an option contradicts FILE.shape";
 pub const TORTURE: &str =
     "  torture                 plays random calls, cuts each at every store, and
-                          holds the list against a plain one; Ctrl-C ends it
+                          holds the list against a plain one; a large queue is
+                          filled by calls between that are not cut; Ctrl-C
+                          ends it
     --seed N, --calls N     default 1 and 20000; one seed always gives the same
                             calls
     --page, --word, --pages, --start N

@@ -7,7 +7,7 @@ use crate::map;
 use crate::page::{note_unreadable, pages};
 use crate::refusal::refused;
 use crate::shape::Numbers;
-use crate::show::{length, note, say, shown};
+use crate::show::{digits, length, note, say, shown};
 use crate::slip::Showing;
 use crate::storing::queue;
 use crate::survey::Survey;
@@ -61,10 +61,11 @@ pub fn list(words: Words) -> Result<(), Failure> {
 }
 
 fn list_slips(stored: &Stored, survey: &Survey, in_hex: bool) -> Result<(), Failure> {
+    let width = digits(survey.list.len()).max(4);
     for (index, item) in survey.list.iter().enumerate() {
         let payload = stored.payload(item);
         let (length, shown) = (length(item.length), shown(payload, in_hex));
-        say(&format!("{:4} {length}  {shown}", index + 1))?;
+        say(&format!("{:width$} {length}  {shown}", index + 1))?;
     }
     if survey.list.is_empty() && survey.refusal.is_none() {
         note("no slip waits");
@@ -74,11 +75,13 @@ fn list_slips(stored: &Stored, survey: &Survey, in_hex: bool) -> Result<(), Fail
 
 /// Every item that reads as one, page by page, whatever the marks say.
 fn list_pages(stored: &Stored, survey: &Survey, in_hex: bool) -> Result<(), Failure> {
+    let number_width = digits(survey.pages.len() - 1).max(2);
+    let address_width = digits(survey.shape.end as usize).max(6);
     for page in &survey.pages {
         for item in &page.items {
             let (length, shown) = (length(item.length), shown(stored.payload(item), in_hex));
             say(&format!(
-                "page {:2} at {:6} {length}  {:6}  {shown}",
+                "page {:number_width$} at {:address_width$} {length}  {:6}  {shown}",
                 page.number, item.address, item.state
             ))?;
         }

@@ -106,10 +106,9 @@ impl Picture<'_> {
         let [waiting, popped, torn]: [usize; 3] =
             [ItemState::Waits, ItemState::Popped, ItemState::Torn].map(count);
         let listed = self.survey.list.len();
-        let _ = writeln!(
-            text,
-            "\nall pages: {waiting} waiting, {listed} of them on the list; {popped} popped, {torn} torn\n\n{LEGEND}"
-        );
+        let head = format!("all pages: {waiting} waiting, {listed} of them on the list;");
+        let all = joined(&head, &format!("{popped} popped, {torn} torn"));
+        let _ = writeln!(text, "\n{all}\n\n{LEGEND}");
         text
     }
 
@@ -121,9 +120,7 @@ impl Picture<'_> {
 
     fn page(&self, text: &mut String, page: &Page) {
         let (head, tail) = self.heading(page);
-        let is_long = head.len() + 1 + tail.len() > COLUMNS;
-        let between = if is_long { "\n    " } else { " " };
-        let _ = writeln!(text, "{head}{between}{tail}");
+        let _ = writeln!(text, "{}", joined(&head, &tail));
         let (start_mark, end_mark) = match page.state {
             PageState::Open => (':', ':'),
             PageState::PartialOpen => ('|', ':'),
@@ -192,6 +189,9 @@ impl Picture<'_> {
         let word = shape.word as usize;
         let data_start = (page.address + shape.word) as usize;
         let data_len = shape.page as usize - 2 * word;
+        if page.is_erased {
+            return vec![Cell::Free; data_len / word];
+        }
         let data = &self.stored.image[data_start..][..data_len];
         let empty = |(index, bytes): (usize, &[u8])| {
             if data_start + index * word < page.free as usize {
@@ -218,6 +218,15 @@ impl Picture<'_> {
         }
         cells
     }
+}
+
+/// Two parts of a line; on two lines where one is too long, the second as far in as it fits, by four columns at most.
+fn joined(head: &str, tail: &str) -> String {
+    if head.len() + 1 + tail.len() <= COLUMNS {
+        return format!("{head} {tail}");
+    }
+    let margin = COLUMNS.saturating_sub(tail.len()).min(4);
+    format!("{head}\n{:margin$}{tail}", "")
 }
 
 #[cfg(test)]
@@ -270,5 +279,25 @@ mod tests {
                 "  :................!.:",
             ]
         );
+    }
+
+    #[test]
+    fn the_longest_lines_of_the_largest_queue_have_80_columns() {
+        let parts = [
+            [
+                "page 255 at 4294836224, corrupted, oldest, current:",
+                "1000 waiting (1000 not on the list), 1000 popped, 1000 torn, 20000 bytes free",
+            ],
+            [
+                "all pages: 1000000 waiting, 1000000 of them on the list;",
+                "100000 popped, 100000 torn",
+            ],
+        ];
+        for [head, tail] in parts {
+            let text = joined(head, tail);
+            assert_eq!(text.lines().count(), 2);
+            assert!(text.lines().all(|line| line.len() <= COLUMNS), "{text}");
+        }
+        assert_eq!(joined("a:", "b"), "a: b");
     }
 }

@@ -29,16 +29,20 @@ impl Page {
         let marks = [&bytes[..word], &bytes[page - word..]];
         let odd_marks = marks.iter().filter(|mark| !is_uniform(mark)).count();
         let free = items.address();
-        let unreadable = unreadable_words(bytes, address, &all, word);
+        let is_erased = is_erased(bytes);
+        let lost = match is_erased {
+            true => 0,
+            false => unreadable_words(bytes, address, &all, word),
+        };
         Page {
             number,
             address,
             state: queue.page_state(number),
             items: all,
             free,
-            unreadable: (unreadable.len() + odd_marks) * word,
+            unreadable: (lost + odd_marks) * word,
             has_odd_mark: odd_marks > 0,
-            is_erased: is_erased(bytes),
+            is_erased,
         }
     }
 
@@ -53,16 +57,19 @@ impl Page {
     }
 }
 
-fn is_uniform(mark: &[u8]) -> bool {
+/// Whether a mark is 00 or FF throughout.
+pub fn is_uniform(mark: &[u8]) -> bool {
     mark.iter().all(|byte| *byte == 0) || is_erased(mark)
 }
 
 pub fn is_erased(bytes: &[u8]) -> bool {
-    bytes.iter().all(|byte| *byte == 0xff)
+    // a row at a time: an image may have 16 MiB
+    const ROW: [u8; 256] = [0xff; 256];
+    bytes.chunks(ROW.len()).all(|row| *row == ROW[..row.len()])
 }
 
-/// The places, in words from the page's start, of words between the marks that are not FF and belong to no item.
-fn unreadable_words(page: &[u8], address: u32, items: &[Item], word: usize) -> Vec<usize> {
+/// How many words between the marks are not FF and belong to no item.
+fn unreadable_words(page: &[u8], address: u32, items: &[Item], word: usize) -> usize {
     let words = page.len() / word;
     let mut is_read = vec![false; words];
     is_read[0] = true;
@@ -73,7 +80,7 @@ fn unreadable_words(page: &[u8], address: u32, items: &[Item], word: usize) -> V
         is_read[first..behind.div_ceil(word)].fill(true);
     }
     let is_lost = |index: &usize| !is_read[*index] && !is_erased(&page[index * word..][..word]);
-    (0..words).filter(is_lost).collect()
+    (0..words).filter(is_lost).count()
 }
 
 /// All pages as they read.

@@ -142,12 +142,16 @@ pub fn explained(shape: Shape, error: ShapeError, image_len: usize) -> String {
     let pages = shape.pages();
     let left = image_len.saturating_sub(start as usize);
     match error {
-        ShapeError::TooLarge if page > 4096 => {
-            format!("a page of {page} bytes is larger than 4096, the most")
+        ShapeError::TooLarge if page > Shape::LARGEST_PAGE => {
+            let most = Shape::LARGEST_PAGE;
+            format!("a page of {page} bytes is larger than {most}, the most")
         }
-        ShapeError::TooLarge => format!(
-            "{pages} pages are more than 64, the most: give --pages, and --start if the queue does not begin at {start} (`slips guess` looks for it)"
-        ),
+        ShapeError::TooLarge => {
+            let most = Shape::MOST_PAGES;
+            format!(
+                "{pages} pages are more than {most}, the most: give --pages, and --start if the queue does not begin at {start} (`slips guess` looks for it)"
+            )
+        }
         ShapeError::OutsideImage => {
             let fitting = left / page.max(1) as usize;
             let ends = format!("the range ends at {end}, and the image at {image_len}");

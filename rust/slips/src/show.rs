@@ -33,6 +33,11 @@ pub fn counted(count: usize, one: &str, more: &str) -> String {
     }
 }
 
+/// The columns that a number takes.
+pub fn digits(number: usize) -> usize {
+    number.to_string().len()
+}
+
 /// A length in columns, as a line of a list begins.
 pub fn length(length: u32) -> String {
     let noun = if length == 1 { "byte" } else { "bytes" };

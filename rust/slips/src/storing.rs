@@ -109,7 +109,8 @@ impl Change {
         self.pages.iter().filter(move |page| {
             let before = &self.held.before[page.address as usize..][..size];
             let after = &self.held.stored.image[page.address as usize..][..size];
-            before.iter().zip(after).any(|(old, new)| new & !old != 0)
+            // most pages are as they were, which is soon told
+            before != after && before.iter().zip(after).any(|(old, new)| new & !old != 0)
         })
     }
 

@@ -2,6 +2,7 @@
 mod common;
 
 use common::{Tool, folder};
+use slipq::{Queue, Shape};
 
 const WRONG: [[&str; 2]; 4] = [
     ["--word", "8"],
@@ -173,4 +174,44 @@ fn guess_finds_the_queue_in_a_dump_of_a_whole_chip() {
     tool.write("empty", &[0xff; 256]);
     let ran = tool.ran(&["guess", "empty"]);
     assert_eq!((ran.status, ran.out.as_str()), (Some(65), ""));
+}
+
+/// An image that is full of slips of so many bytes, but for one that was popped.
+fn full(shape: Shape, length: usize) -> Vec<u8> {
+    let mut image = vec![0xff; shape.end as usize];
+    let mut queue = Queue::new(&mut image, shape).unwrap();
+    let slip = "Moser, Paul, Oberdorf 3 ".repeat(length / 24 + 1);
+    while queue.push(&slip.as_bytes()[..length], false).is_ok() {}
+    queue.pop(&mut vec![0; length.next_multiple_of(4)]).unwrap();
+    image
+}
+
+/// Guesses at a dump of a full queue alone, and at one of a chip that has a page of firmware before it and one behind.
+fn guess_full(name: &str, shape: Shape, length: usize, slips: usize) {
+    let tool = Tool(folder(name));
+    let image = full(shape, length);
+    let (page, pages, waiting) = (shape.page, shape.pages(), slips - 1);
+    let says = format!(
+        "--page {page} --word 4 --pages {pages}\n    {slips} slips: {waiting} waiting, 1 popped; 0 torn, 0 bytes not readable\n"
+    );
+    tool.write("dump", &image);
+    let found = tool.run(&["guess", "dump"]).1;
+    assert!(found.starts_with(&says), "{found}");
+    let firmware: Vec<u8> = (0..page).map(|n| (n.wrapping_mul(n) >> 3) as u8).collect();
+    tool.write("dump", &[&firmware[..], &image, &firmware].concat());
+    let found = tool.run(&["guess", "dump"]).1;
+    assert!(
+        found.starts_with(&format!("--start {page} {says}")),
+        "{found}"
+    );
+}
+
+#[test]
+fn guess_finds_256_pages_of_256_bytes() {
+    guess_full("guess-many", Shape::of(256, 256, 4), 50, 1024);
+}
+
+#[test]
+fn guess_finds_4_pages_of_65536_bytes() {
+    guess_full("guess-large", Shape::of(4, 65_536, 4), 1000, 260);
 }

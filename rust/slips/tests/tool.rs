@@ -62,8 +62,8 @@ fn each_refusal_has_its_status() {
     assert_eq!(shaped(&["--word", "8"]), 0);
     assert_eq!(shaped(&["--word", "16"]), 13);
     assert_eq!(shaped(&["--word", "2"]), 15);
-    assert_eq!(shaped(&["--pages", "65"]), 16);
-    assert_eq!(shaped(&["--pages", "2"]), 17);
+    assert_eq!(shaped(&["--pages", "257"]), 16);
+    assert_eq!(shaped(&["--pages", "256"]), 17);
     let wide = ["new", "b", "--page", "256", "--word", "64", "--pages", "1"];
     assert_eq!(tool.status(&wide), 14);
     assert_eq!(shaped(&["--word", "four"]), 64);

@@ -21,8 +21,11 @@ fn torture_rolls_only_shapes_that_go() {
     }
     // what no roll can mend is refused by its name
     assert_eq!(tool.status(&["torture", "--page", "30"]), 9);
-    assert_eq!(tool.status(&["torture", "--page", "8192"]), 16);
     let given = |words: &[&str]| tool.status(&[&["torture"], words].concat());
+    assert_eq!(given(&["--page", "65536", "--calls", "3"]), 0);
+    assert_eq!(given(&["--page", "65540"]), 16);
+    assert_eq!(given(&["--pages", "256", "--calls", "3"]), 0);
+    assert_eq!(given(&["--pages", "257"]), 16);
     assert_eq!(given(&["--page", "64", "--start", "32"]), 10);
     assert_eq!(given(&["--word", "0"]), 9);
     assert_eq!(given(&["--word", "64"]), 14);

@@ -41,20 +41,24 @@ fn a_limit_is_named() {
 fn a_dump_of_a_whole_chip_is_told_which_limit_it_passes() {
     let tool = Tool(folder("whole-chip"));
     let shaped = |page: &str| tool.ran(&["list", "dump", "--word", "4", "--page", page]);
-    tool.write("dump", &[0xff; 65 * 64]);
+    tool.write("dump", &[0xff; 256 * 64]);
+    assert_eq!(shaped("64").status, Some(0));
+    tool.write("dump", &[0xff; 257 * 64]);
     let ran = shaped("64");
     assert_eq!(ran.status, Some(16));
     assert!(
         ran.err
-            .contains("65 pages are more than 64, the most: give --pages"),
+            .contains("257 pages are more than 256, the most: give --pages"),
         "{}",
         ran.err
     );
-    tool.write("dump", &[0xff; 8192]);
-    let ran = shaped("8k");
+    tool.write("dump", &[0xff; 65_540]);
+    assert_eq!(shaped("64k").status, Some(0));
+    let ran = shaped("65540");
     assert_eq!(ran.status, Some(16));
     assert!(
-        ran.err.contains("a page of 8192 bytes is larger than 4096"),
+        ran.err
+            .contains("a page of 65540 bytes is larger than 65536, the most"),
         "{}",
         ran.err
     );

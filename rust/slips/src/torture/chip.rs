@@ -78,17 +78,24 @@ impl Chip {
     }
 
     pub fn make(&mut self, call: &Call, limit: Option<usize>) -> Result<Answer, Error> {
-        self.work(|queue| make(queue, call, limit))
+        let mut buffer = self.buffer();
+        self.work(|queue| make(queue, call, limit, &mut buffer))
+    }
+
+    /// A buffer that takes any slip.
+    fn buffer(&self) -> Vec<u8> {
+        vec![0; self.shape.page as usize]
     }
 
     /// The slips that wait: what pops show, made on a copy.
     pub fn list(&self) -> Result<List, String> {
         // each slip takes a header of eight bytes at least
         let most = self.image.len() / 8;
+        let mut buffer = self.buffer();
         self.copy().work(|queue| {
             let mut list = vec![];
             for _ in 0..=most {
-                match make(queue, &Call::Pop, None) {
+                match make(queue, &Call::Pop, None, &mut buffer) {
                     Ok(Answer::Slip(slip)) => list.push(slip),
                     Ok(_) => return Ok(list),
                     Err(error) => return Err(format!("the list cannot be popped: {error:?}")),
@@ -100,13 +107,9 @@ impl Chip {
 
     /// Whether one store leads from an image to this one: at most one word has changed, or one page that is FF now.
     pub fn is_one_store_from(&self, image: &[u8]) -> bool {
-        let changed = |(index, (old, new)): (usize, (&u8, &u8))| (old != new).then_some(index);
-        let pairs = image.iter().zip(&self.image);
-        let mut changes = pairs.enumerate().filter_map(changed);
-        let Some(first) = changes.next() else {
+        let Some([first, last]) = changed(image, &self.image) else {
             return true;
         };
-        let last = changes.next_back().unwrap_or(first);
         let [start, end] = self.range();
         let [page, word] = [self.shape.page, self.shape.word].map(|number| number as usize);
         if first < start || last >= end {
@@ -145,8 +148,26 @@ impl Chip {
     }
 }
 
-fn make(queue: &mut Queue, call: &Call, limit: Option<usize>) -> Result<Answer, Error> {
-    let mut buffer = vec![0; queue.shape().page as usize];
+/// The places of the first and the last byte that differ. Rows are compared first: a large image has many, and few of them differ.
+fn changed(old: &[u8], new: &[u8]) -> Option<[usize; 2]> {
+    const ROW: usize = 256;
+    let rows = || old.chunks(ROW).zip(new.chunks(ROW));
+    let differs = |(old, new): (&[u8], &[u8])| old != new;
+    let first_row = rows().position(differs)? * ROW;
+    let last_row = rows().rposition(differs)? * ROW;
+    let differs = |(old, new): (&u8, &u8)| old != new;
+    let bytes = |from: usize| old[from..].iter().zip(&new[from..]);
+    let first = bytes(first_row).position(differs)?;
+    let last = bytes(last_row).take(ROW).rposition(differs)?;
+    Some([first_row + first, last_row + last])
+}
+
+fn make(
+    queue: &mut Queue,
+    call: &Call,
+    limit: Option<usize>,
+    buffer: &mut [u8],
+) -> Result<Answer, Error> {
     let done = |()| Answer::Done;
     let shown = |slip: Option<&mut [u8]>| match slip {
         None => Answer::Empty,
@@ -156,10 +177,10 @@ fn make(queue: &mut Queue, call: &Call, limit: Option<usize>) -> Result<Answer, 
     match (call, limit) {
         (Call::Push(slip), None) => queue.push(slip, false).map(done),
         (Call::Push(slip), Some(limit)) => queue.push_limited(slip, false, limit).map(done),
-        (Call::Peek, None) => queue.peek(&mut buffer).map(shown),
-        (Call::Peek, Some(limit)) => queue.peek_limited(&mut buffer, limit).map(shown),
-        (Call::Pop, None) => queue.pop(&mut buffer).map(shown),
-        (Call::Pop, Some(limit)) => queue.pop_limited(&mut buffer, limit).map(shown),
+        (Call::Peek, None) => queue.peek(buffer).map(shown),
+        (Call::Peek, Some(limit)) => queue.peek_limited(buffer, limit).map(shown),
+        (Call::Pop, None) => queue.pop(buffer).map(shown),
+        (Call::Pop, Some(limit)) => queue.pop_limited(buffer, limit).map(shown),
         (Call::FindMaxFit, None) => queue.find_max_fit().map(Answer::Number),
         (Call::FindMaxFit, Some(limit)) => queue.find_max_fit_limited(limit).map(Answer::Number),
         (Call::SpaceLeft, None) => queue.space_left().map(number),

@@ -22,6 +22,10 @@ impl Dice {
     }
 
     pub fn bytes(&mut self, length: usize) -> Vec<u8> {
-        (0..length).map(|_| self.number() as u8).collect()
+        let mut bytes = vec![0; length];
+        for row in bytes.chunks_mut(8) {
+            row.copy_from_slice(&self.number().to_le_bytes()[..row.len()]);
+        }
+        bytes
     }
 }

@@ -6,12 +6,6 @@ use crate::system;
 use slipq::{Error, Shape};
 use std::fmt::Write;
 
-/// What a cut call left.
-pub struct Cut {
-    pub image: Vec<u8>,
-    pub list: List,
-}
-
 /// One call of a history.
 pub struct Step<'a> {
     pub before: &'a Chip,
@@ -20,35 +14,46 @@ pub struct Step<'a> {
 }
 
 impl Step<'_> {
-    /// Makes the call on the chip, and on copies with every limit. Gives what each cut left, and the list after the whole call.
-    pub fn play(&self, chip: &mut Chip, figures: &mut Figures) -> Result<(Vec<Cut>, List), String> {
+    /// Makes the call whole on the chip. Gives its answer, and the list that it has to leave. The chip's own list is not looked at.
+    pub fn make(
+        &self,
+        chip: &mut Chip,
+        figures: &mut Figures,
+    ) -> Result<(Result<Answer, Error>, List), String> {
         let answer = chip.make(self.call, None);
         let after = self.expected(&answer, chip, figures);
-        let after = after.map_err(|says| self.fault(None, says, &answer))?;
-        self.same(chip, &[&after])
+        match after.and_then(|after| self.test_outside(chip).map(|()| after)) {
+            Ok(after) => Ok((answer, after)),
+            Err(says) => Err(self.fault(None, says, &answer)),
+        }
+    }
+
+    /// Makes the call on the chip, and on copies with every limit. Gives how many limits cut it, and the list after the whole call.
+    pub fn play(&self, chip: &mut Chip, figures: &mut Figures) -> Result<(usize, List), String> {
+        let (answer, after) = self.make(chip, figures)?;
+        self.test_list(chip, &[&after])
             .map_err(|says| self.fault(None, &says, &answer))?;
         let cuts = match self.call {
-            Call::EraseAll => vec![],
+            Call::EraseAll => 0,
             _ => self.cuts(chip, &answer, &after)?,
         };
-        figures.cuts += cuts.len() as u64;
+        figures.cuts += cuts as u64;
         Ok((cuts, after))
     }
 
-    /// Makes the call with every limit that cuts it, and with the first that does not; fewer if Ctrl-C comes.
+    /// Makes the call with every limit that cuts it, and with the first that does not; fewer if Ctrl-C comes. Gives how many cut it.
     fn cuts(
         &self,
         chip: &Chip,
         answer: &Result<Answer, Error>,
         after: &List,
-    ) -> Result<Vec<Cut>, String> {
-        let mut cuts: Vec<Cut> = vec![];
-        for limit in 0.. {
-            let mut copy = self.before.copy();
-            let limited = copy.make(self.call, Some(limit));
+    ) -> Result<usize, String> {
+        let mut last = self.before.image.clone();
+        let mut limit = 0;
+        while limit == 0 || !system::is_interrupted() {
+            let (copy, limited) = self.limited(limit);
             let fault = |says: &str| self.fault(Some(limit), says, &limited);
-            let last = cuts.last().map_or(&self.before.image, |cut| &cut.image);
-            if !copy.is_one_store_from(last) || limit == 0 && copy.image != *last {
+            if !copy.is_one_store_from(&last) || limit == 0 && copy.image != last {
                 return Err(fault("a limit of one more is not one store more"));
             }
             if limited != Err(Error::Cut) {
@@ -57,15 +62,27 @@ impl Step<'_> {
                 }
                 break;
             }
-            let list = self.same(&copy, &[self.list, after]);
-            let list = list.map_err(|says| fault(&says))?;
-            let image = copy.image;
-            cuts.push(Cut { image, list });
-            if system::is_interrupted() {
-                break;
-            }
+            self.test_list(&copy, &[self.list, after])
+                .map_err(|says| fault(&says))?;
+            last = copy.image;
+            limit += 1;
         }
-        Ok(cuts)
+        Ok(limit)
+    }
+
+    fn limited(&self, limit: usize) -> (Chip, Result<Answer, Error>) {
+        let mut copy = self.before.copy();
+        let limited = copy.make(self.call, Some(limit));
+        (copy, limited)
+    }
+
+    /// The image that a cut leaves, and its list: the call is made once more, since the images of its cuts were not kept.
+    pub fn cut(&self, limit: usize) -> Result<(Vec<u8>, List), String> {
+        let (copy, limited) = self.limited(limit);
+        match copy.list() {
+            Ok(list) => Ok((copy.image, list)),
+            Err(says) => Err(self.fault(Some(limit), &says, &limited)),
+        }
     }
 
     /// The list after a whole call that answers so, if a plain list can answer so.
@@ -119,14 +136,19 @@ impl Step<'_> {
         Ok(())
     }
 
-    /// The chip's list, if it is one of these and nothing outside the range has changed.
-    fn same(&self, chip: &Chip, lists: &[&List]) -> Result<List, String> {
-        if chip.outside() != self.before.outside() {
-            return Err("a byte outside the range has changed".into());
+    fn test_outside(&self, chip: &Chip) -> Result<(), &'static str> {
+        match chip.outside() == self.before.outside() {
+            true => Ok(()),
+            false => Err("a byte outside the range has changed"),
         }
+    }
+
+    /// Tests that the chip's list is one of these, and that nothing outside the range has changed.
+    fn test_list(&self, chip: &Chip, lists: &[&List]) -> Result<(), String> {
+        self.test_outside(chip)?;
         let list = chip.list()?;
         if lists.contains(&&list) {
-            return Ok(list);
+            return Ok(());
         }
         let mut says = String::from("the list is neither the one before nor the one after\n");
         for (name, list) in [("found", &list), ("before", self.list)] {
