@@ -15,8 +15,8 @@ const CHECK_VALUE: u32 = 0xe306_9283;
 
 const CASTAGNOLI: u32 = 0x82f6_3b78;
 
-/// Lengths past 70, up to the largest page. They are few, so that `rt try cases` gets through too: its interpreter stops after
-/// ten million steps, and a byte takes some two hundred.
+/// Lengths past 70. They are few and none is longer, so that `rt try cases` gets through too: its interpreter stops after ten million
+/// steps, and a byte takes some two hundred. Slips as long as the largest page takes are in crates/replay.
 const LONGER: [usize; 17] = [
     100, 127, 128, 129, 255, 256, 257, 511, 512, 513, 1000, 1023, 1024, 1025, 2048, 4095, 4096,
 ];

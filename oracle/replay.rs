@@ -11,6 +11,13 @@ use std::fmt::Write;
 /// So many bytes at most are printed whole; more are told by their checksum.
 const FEW: usize = 64;
 
+/// The room that the program has for an image, and for a slip or a buffer.
+const IMAGE: usize = 294_912;
+const LENT: usize = 65_536;
+
+/// Random images of more bytes would make the files large.
+const RANDOM: usize = 16_384;
+
 const WORDS: [u32; 4] = [4, 8, 16, 32];
 
 const CALLS: [Call; 6] = [
@@ -35,8 +42,10 @@ fn main() {
         histories(word, &mut record);
         fillings(word, &mut record);
     }
+    rounds(&mut record);
     for seed in 1..=24 {
-        for case in random(seed).take(70) {
+        let cases = random(seed).filter(|case| case.image.len() <= RANDOM);
+        for case in cases.take(70) {
             record.add(case);
         }
     }
@@ -72,6 +81,7 @@ impl Record {
             *self.left_out.entry(name).or_default() += 1;
             return;
         }
+        assert!(case.image.len() <= IMAGE && case.slip.len().max(case.buffer.len()) <= LENT);
         self.write_waiting(Some(&case.image));
         self.count(&case, &outcome);
         self.calls.extend(changes(&self.room, &case.image));
@@ -328,6 +338,7 @@ fn worked(record: &mut Record) {
     small_buffer.push(b"slip!", None, &[0]);
     small_buffer.peek(7, &[4, 8]);
     assert_eq!(small_buffer.peek(8, &[0, 5]), b"slip!\0\0\0");
+    adjusted_length(&mut on(record, 8192, 4));
 }
 
 /// One erased page.
@@ -371,6 +382,17 @@ fn full_page(page: &mut Worked) {
     page.push(b"", Some(3), &[7]);
     page.image = full;
     page.push(b"", Some(4), &[0]);
+}
+
+/// The shortest length whose CRC would be 0xFFFF, and behind it the length whose CRC is 0xFFFE of itself.
+fn adjusted_length(page: &mut Worked) {
+    page.push(&[1; 6870], None, &[0]);
+    assert_eq!(page.image[8..12], [0xd6, 0x1a, 0xfe, 0xff]);
+    page.push(&[2; 496], None, &[0]);
+    assert_eq!(page.image[6888..6892], [0xf0, 0x01, 0xfe, 0xff]);
+    page.call(Call::SpaceLeft, &[0, 800]);
+    page.peek(6871, &[4, 6872]);
+    page.peek(6872, &[0, 6870]);
 }
 
 // ---- cases
@@ -471,7 +493,7 @@ impl Share {
 /// Slips about as long as the longest and as a word, and buffers about as large as what they are to hold, for pages of all sizes.
 fn lengths(word: u32, record: &mut Record) {
     let small = smallest(word);
-    for page in [small, small + word, 256, 512, 1024, 2048, 4096] {
+    for page in [small, small + word, 256, 512, 1024, 4096, 65_536] {
         let shape = shape(word, page, 2);
         let (word, longest) = (word as usize, longest(shape));
         let about = [
@@ -512,7 +534,10 @@ fn buffers(push: &Case, record: &mut Record) {
 fn refusals(word: u32, record: &mut Record) {
     let page = 8 * word;
     let image: Vec<u8> = (0..3 * page + 5).map(|at| at as u8).collect();
-    for (index, [start, end, page, word]) in odd_shapes(word, page).into_iter().enumerate() {
+    let shapes = odd_shapes(word, page)
+        .into_iter()
+        .chain(large_shapes(word, page));
+    for (index, [start, end, page, word]) in shapes.enumerate() {
         let shape = Shape {
             start,
             end,
@@ -530,8 +555,9 @@ fn refusals(word: u32, record: &mut Record) {
     outside(word, record);
 }
 
-/// Start, end, page and word, for an image of three pages and five bytes: rows 9 to 17 in their order, then two that are accepted.
-fn odd_shapes(word: u32, page: u32) -> [[u32; 4]; 26] {
+/// Start, end, page and word, for an image of three pages and five bytes: rows 9 to 15 in their order, 16, 17, then two that are
+/// accepted.
+fn odd_shapes(word: u32, page: u32) -> [[u32; 4]; 25] {
     let small = smallest(word) - word;
     let high = u32::MAX / page * page;
     [
@@ -553,14 +579,34 @@ fn odd_shapes(word: u32, page: u32) -> [[u32; 4]; 26] {
         [0, 40, 40, 1],
         [0, 60, 60, 6],
         [0, 155, 155, 31],
-        [0, 4096 + word, 4096 + word, word],
-        [0, 65 * page, page, word],
-        [page, 66 * page, page, word],
+        [0, 257 * page, page, word],
+        [page, 258 * page, page, word],
         [0, high, page, word],
-        [0, 64 * page, page, word],
+        [0, 256 * page, page, word],
         [0, 4 * page, page, word],
         [0, 3 * page, page, word],
         [2 * page, 3 * page, page, word],
+    ]
+}
+
+/// The same with large pages, and with ranges at the top of the addresses: row 16, then 17.
+fn large_shapes(word: u32, page: u32) -> [[u32; 4]; 11] {
+    let large = 65_536;
+    let high = u32::MAX / page * page;
+    let top = u32::MAX / large * large;
+    let last = 0_u32.wrapping_sub(word);
+    [
+        [0, large + word, large + word, word],
+        [0, 2 * large, 2 * large, word],
+        [0, 1 << 31, 1 << 31, word],
+        [0, last, last, word],
+        [0, 257 * large, large, word],
+        [0, top, large, word],
+        [top - 257 * large, top, large, word],
+        [0, large, large, word],
+        [0, 256 * large, large, word],
+        [top - 256 * large, top, large, word],
+        [high - 256 * page, high, page, word],
     ]
 }
 
@@ -584,8 +630,8 @@ fn histories(word: u32, record: &mut Record) {
         (small + word, 2, 60),
         (small + word, 5, 60),
         (small, 16, 60),
-        (small, 63, 60),
-        (small, 64, 60),
+        (small, 255, 60),
+        (small, 256, 60),
         (256, 3, 40),
         (512, 2, 20),
         (1024, 3, 20),
@@ -601,13 +647,19 @@ fn histories(word: u32, record: &mut Record) {
     }
 }
 
-/// Images of many pages, the largest among them, filled to the last page and emptied.
+/// Images of many pages and of large ones, the most and the largest among them, filled to the last page and emptied.
 fn fillings(word: u32, record: &mut Record) {
     let small = smallest(word);
-    for (page, pages) in [(small, 16), (small, 63), (small, 64), (256, 5), (4096, 64)] {
+    let few = [(small, 16), (256, 5), (65_536, 4)];
+    for (page, pages) in [(small, 255), (small, 256), (256, 256)]
+        .into_iter()
+        .chain(few)
+    {
         let shape = shape(word, page, pages);
         let mut image = erased(shape);
-        for (index, (call, overwrite, limit)) in filling(pages as usize).into_iter().enumerate() {
+        let words = longest(shape) / word as usize;
+        let calls = filling(pages as usize, words);
+        for (index, (call, overwrite, limit)) in calls.into_iter().enumerate() {
             let mut case = plain(call, shape, &image);
             case.overwrite = overwrite;
             case.limit = limit;
@@ -620,9 +672,31 @@ fn fillings(word: u32, record: &mut Record) {
     }
 }
 
+/// 256 pages with a slip on each, filled and emptied twice round.
+fn rounds(record: &mut Record) {
+    let shape = shape(4, 20, 256);
+    let mut image = erased(shape);
+    for index in 0..4 * 257 {
+        // 256 slips and one too many, as many pops and one more
+        let call = [Call::Push, Call::Pop][index / 257 % 2];
+        let mut case = plain(call, shape, &image);
+        case.slip = vec![index as u8; 4];
+        case.buffer = vec![0xa5; 4];
+        let outcome = judge(&case);
+        let row = match (index % 257, call) {
+            (256, Call::Push) => 3,
+            (256, _) => 1,
+            _ => 0,
+        };
+        assert_eq!(outcome.numbers[0], row, "call {index} of the rounds");
+        image = outcome.image;
+        record.add(case);
+    }
+}
+
 /// Pushes to every page, some of them cut; more pushes to the full range, then with overwriting, cut after each of the first
-/// stores; pops, cut and whole; pushes behind the pops; and the end of it.
-fn filling(pages: usize) -> Vec<(Call, bool, Option<usize>)> {
+/// stores and within the slip, which has so many words; pops, cut and whole; pushes behind the pops; and the end of it.
+fn filling(pages: usize, words: usize) -> Vec<(Call, bool, Option<usize>)> {
     let push = |limit| (Call::Push, false, limit);
     let over = |limit| (Call::Push, true, limit);
     let ask = |call| (call, false, None);
@@ -635,8 +709,9 @@ fn filling(pages: usize) -> Vec<(Call, bool, Option<usize>)> {
     }
     calls.extend([push(None), push(Some(0)), ask(Call::FindMaxFit)]);
     calls.extend([ask(Call::SpaceLeft), over(Some(0)), over(Some(1))]);
-    calls.extend([over(Some(2)), over(None), over(None), ask(Call::Peek)]);
-    for turn in 0..pages / 4 {
+    calls.extend([over(Some(2)), over(Some(words / 2)), over(Some(words))]);
+    calls.extend([over(None), over(None), ask(Call::Peek)]);
+    for turn in 0..(pages / 4).min(16) {
         calls.push((Call::Pop, false, Some(turn % 3)));
         calls.push(ask(Call::Pop));
     }

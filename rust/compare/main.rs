@@ -4,26 +4,33 @@
 //! (oracle/build), not as a package that cargo could name.
 #[path = "../slipq/src/face.rs"]
 mod face;
+mod large;
+mod lent;
 #[path = "../slips/src/progress.rs"]
 mod progress;
 mod rules;
 mod shrink;
+mod sides;
 #[path = "../slips/src/system.rs"]
 #[allow(dead_code)] // of what the tool asks of the system, this asks for the terminal alone
 mod system;
 
 use face::Answer;
 use judge::cases::{random, small};
-use judge::{Call, Case, Outcome, Shape, judge, refusal};
+use judge::{Call, Case, Outcome, judge, refusal};
+use lent::{asked, numbers};
 use progress::Progress;
 use std::collections::BTreeMap;
+use std::fmt::{Display, Formatter, Result as Formatted};
 use std::process::ExitCode;
 use std::time::{Duration, Instant};
 
 const USAGE: &str = "\
-usage: compare [SEED [COUNT]]     random cases, by default of seed 1 for 20 seconds; every seventh with all its limits
+usage: compare [SEED [COUNT]]     random cases, by default of seed 1 for 20 seconds; every seventh with its limits
        compare --small            all cases of a few small geometries
        compare --quick            the small ones, then four million random ones of seed 1: under a minute
+       compare --large            the largest images, up to 256 pages of 65,536, filled and emptied twice round with cuts, and
+                                  shapes at the limits and beyond: under a minute
        compare --replay LINE      one case: call start end page word limit overwrite image slip buffer
 exit status: 0 all equal, 1 a difference, 2 a wrong command line";
 
@@ -33,14 +40,18 @@ const USUAL: Duration = Duration::from_secs(20);
 /// How many random cases the quick run has.
 const QUICK: usize = 4_000_000;
 
-/// Every so many cases without a limit are asked with each limit too, and its pages are looked at.
+/// Every so many cases without a limit are asked with their limits too, and their pages are looked at.
 const SHARE: u64 = 7;
+
+/// A case is asked with each of its limits while the images for that have no more bytes together, as for a few pages of 4,096; beyond,
+/// the first limits, the last and some between have to do.
+const LIMITED: usize = 1 << 25;
+
+/// A page of more words than one of 4,096 can have is not looked at everywhere.
+const LOOKED_AT: usize = 1024;
 
 /// So many differences end a run; the smallest is shown.
 const ENOUGH: usize = 50;
-
-/// What stands on either side of a lent slice while libdock.a works on it, and has to be there still.
-const GUARD: [u8; 32] = [0xc3; 32];
 
 fn main() -> ExitCode {
     let words: Vec<String> = std::env::args().skip(1).collect();
@@ -49,6 +60,7 @@ fn main() -> ExitCode {
         [] => run(random(1), None),
         ["--small"] => run(small(), Some(u64::MAX)),
         ["--quick"] => run(small().chain(random(1).take(QUICK)), Some(u64::MAX)),
+        ["--large"] => large::run(),
         ["--replay", ref line @ ..] if !line.is_empty() => replay(&line.join(" ")),
         ["--help" | "-h"] => {
             println!("{USAGE}");
@@ -89,6 +101,17 @@ impl Figures {
             self.cases, self.limited, self.looks, self.differing
         )
     }
+
+    fn print(&self, elapsed: Duration) {
+        let rows = self.answers.iter();
+        let rows: Vec<String> = rows.map(|(row, count)| format!("{row}: {count}")).collect();
+        println!("answers by row: {}", rows.join(", "));
+        for (name, count) in &self.not_asked {
+            println!("left out, without an answer of the Rust: {count}, {name}");
+        }
+        let seconds = elapsed.as_secs_f64();
+        println!("compare: {} in {seconds:.1} s", self.line());
+    }
 }
 
 fn run(cases: impl Iterator<Item = Case>, count: Option<u64>) -> ExitCode {
@@ -114,17 +137,7 @@ fn run(cases: impl Iterator<Item = Case>, count: Option<u64>) -> ExitCode {
         }
     }
     progress.end();
-    let rows: Vec<String> = figures
-        .answers
-        .iter()
-        .map(|(row, count)| format!("{row}: {count}"))
-        .collect();
-    println!("answers by row: {}", rows.join(", "));
-    for (name, count) in &figures.not_asked {
-        println!("left out, without an answer of the Rust: {count}, {name}");
-    }
-    let seconds = begun.elapsed().as_secs_f64();
-    println!("compare: {} in {seconds:.1} s", figures.line());
+    figures.print(begun.elapsed());
     match smallest {
         None => ExitCode::SUCCESS,
         Some(case) => {
@@ -136,7 +149,7 @@ fn run(cases: impl Iterator<Item = Case>, count: Option<u64>) -> ExitCode {
     }
 }
 
-/// The cases that differ: the case itself, and in its share the case with each limit. There its pages are looked at too.
+/// The cases that differ: the case itself, and in its share the case with its limits. There its pages are looked at too.
 fn compared(case: &Case, figures: &mut Figures) -> Vec<Case> {
     let expected = judge(case);
     if let Some(name) = expected.failure {
@@ -152,7 +165,8 @@ fn compared(case: &Case, figures: &mut Figures) -> Vec<Case> {
             differs |= look.found != look.expected;
         }
         // one limit more than there are stores
-        for limit in 0..=expected.stores.len() + 1 {
+        let limits = expected.stores.len() + 2;
+        for limit in spread(limits, limits * case.image.len() <= LIMITED) {
             figures.limited += 1;
             let limited = Case {
                 limit: Some(limit),
@@ -170,6 +184,14 @@ fn compared(case: &Case, figures: &mut Figures) -> Vec<Case> {
     found
 }
 
+/// The numbers below a count: all, or the first, the last and some between.
+fn spread(count: usize, is_all: bool) -> impl Iterator<Item = usize> {
+    let is_near_an_end = move |number| number < 24 || count - number <= 24;
+    let step = (count / 32).max(1);
+    (0..count)
+        .filter(move |number| is_all || is_near_an_end(*number) || number.is_multiple_of(step))
+}
+
 /// What libdock.a does otherwise than the crate, or sees otherwise on the case's pages.
 fn difference(case: &Case) -> Option<String> {
     let expected = judge(case);
@@ -177,16 +199,7 @@ fn difference(case: &Case) -> Option<String> {
         return None;
     }
     let look = || looks(case).find(|look| look.found != look.expected);
-    call_difference(case, &expected).or_else(|| {
-        look().map(|look| {
-            let Look {
-                at,
-                found,
-                expected,
-            } = look;
-            format!("{at}: row and value {found:?}, not {expected:?}")
-        })
-    })
+    call_difference(case, &expected).or_else(|| look().map(|look| look.to_string()))
 }
 
 fn call_difference(case: &Case, expected: &Outcome) -> Option<String> {
@@ -200,11 +213,11 @@ fn call_difference(case: &Case, expected: &Outcome) -> Option<String> {
     let found = asked(case);
     let what = if found.is_astray {
         "a byte that was not lent to be changed"
-    } else if found.answer != answer_of(case, expected) {
+    } else if found.answer != answer_of(case.call, &expected.numbers) {
         "the answer"
-    } else if found.image != expected.image {
+    } else if found.image.bytes() != expected.image {
         "the image"
-    } else if found.buffer != expected.buffer {
+    } else if found.buffer.bytes() != expected.buffer {
         "the buffer"
     } else {
         return None;
@@ -212,106 +225,87 @@ fn call_difference(case: &Case, expected: &Outcome) -> Option<String> {
     Some(what.into())
 }
 
-fn numbers(shape: &Shape) -> [u32; 4] {
-    [shape.start, shape.end, shape.page, shape.word]
-}
-
 /// The crate's answer as libdock.a gives it.
-fn answer_of(case: &Case, outcome: &Outcome) -> Answer {
-    let row = outcome.numbers[0];
-    let none = if case.call == Call::FindMaxFit && row == 0 {
+fn answer_of(call: Call, numbers: &[u32]) -> Answer {
+    let row = numbers[0];
+    let none = if call == Call::FindMaxFit && row == 0 {
         face::NO_FIT
     } else {
         0
     };
     Answer {
         row,
-        value: outcome.numbers.get(1).copied().unwrap_or(none),
+        value: numbers.get(1).copied().unwrap_or(none),
     }
 }
 
-/// What libdock.a made of a case.
-struct Made {
-    answer: Answer,
-    image: Vec<u8>,
-    buffer: Vec<u8>,
-    /// whether a byte changed that was not lent, or only lent to be read
-    is_astray: bool,
-}
-
-fn asked(case: &Case) -> Made {
-    let [mut image, mut slip, mut buffer] =
-        [&case.image, &case.slip, &case.buffer].map(|bytes| guarded(bytes));
-    let shape = numbers(&case.shape);
-    let limit = case.limit;
-    let lent = |bytes: &[u8]| GUARD.len()..bytes.len() - GUARD.len();
-    let (image_at, slip_at, buffer_at) = (lent(&image), lent(&slip), lent(&buffer));
-    let answer = {
-        let image = &mut image[image_at.clone()];
-        let slip = &slip[slip_at.clone()];
-        let buffer = &mut buffer[buffer_at.clone()];
-        match case.call {
-            Call::Push => face::push(image, shape, slip, case.overwrite, limit),
-            Call::Peek => face::peek(image, shape, buffer, limit),
-            Call::Pop => face::pop(image, shape, buffer, limit),
-            Call::FindMaxFit => face::find_max_fit(image, shape, limit),
-            Call::SpaceLeft => face::space_left(image, shape, limit),
-            Call::EraseAll => face::erase_all(image, shape, limit),
-        }
-    };
-    let [image, slip, buffer] = [
-        (&mut image, image_at),
-        (&mut slip, slip_at),
-        (&mut buffer, buffer_at),
-    ]
-    .map(|(bytes, lent)| {
-        let inner = bytes[lent.clone()].to_vec();
-        let is_kept = bytes[..lent.start] == GUARD && bytes[lent.end..] == GUARD;
-        (inner, is_kept)
-    });
-    let is_kept = image.1 && slip.1 && buffer.1 && slip.0 == case.slip;
-    Made {
-        answer,
-        image: image.0,
-        buffer: buffer.0,
-        is_astray: !is_kept,
-    }
-}
-
-fn guarded(bytes: &[u8]) -> Vec<u8> {
-    [&GUARD[..], bytes, &GUARD].concat()
-}
-
-/// What is seen at some place of a page, and what should be.
+/// What is seen of a page's state or of an item on it, and what should be.
 struct Look {
-    at: String,
-    found: (u32, u32),
-    expected: (u32, u32),
+    page: u32,
+    /// the item's; none for the page's state
+    address: Option<u32>,
+    found: rules::Numbers,
+    expected: rules::Numbers,
 }
 
-/// Looks at every page, at every word of the first pages, and at places outside them. Of a refused shape at two places.
+impl Look {
+    fn state(case: &Case, page: u32) -> Look {
+        let Case { shape, image, .. } = case;
+        let Answer { row, value } = face::page_state(image, numbers(shape), page);
+        Look {
+            page,
+            address: None,
+            found: (row, value),
+            expected: rules::page_state(image, shape, page),
+        }
+    }
+
+    fn item(case: &Case, page: u32, address: u32) -> Look {
+        let Case { shape, image, .. } = case;
+        let Answer { row, value } = face::item(image, numbers(shape), page, address);
+        Look {
+            page,
+            address: Some(address),
+            found: (row, value),
+            expected: rules::item(image, shape, page, address),
+        }
+    }
+}
+
+impl Display for Look {
+    fn fmt(&self, f: &mut Formatter) -> Formatted {
+        let Look {
+            page,
+            address,
+            found,
+            expected,
+        } = self;
+        match address {
+            None => write!(f, "the state of page {page}")?,
+            Some(address) => write!(f, "the item at {address} of page {page}")?,
+        }
+        write!(f, ": row and value {found:?}, not {expected:?}")
+    }
+}
+
+/// Looks at every page, at the words of the first pages and of the last, and at places outside them. Of a refused shape at two places.
 fn looks(case: &Case) -> impl Iterator<Item = Look> {
-    let Case { shape, image, .. } = case;
-    let pages = match refusal(shape, image.len()) {
+    let shape = &case.shape;
+    let pages = match refusal(shape, case.image.len()) {
         Some(_) => 0,
         None => (shape.end - shape.start) / shape.page,
     };
-    let states = (0..=pages).map(|p| {
-        let found = face::page_state(image, numbers(shape), p);
-        Look {
-            at: format!("the state of page {p}"),
-            found: (found.row, found.value),
-            expected: rules::page_state(image, shape, p),
-        }
-    });
-    let places = (0..=pages.min(3)).flat_map(move |p| {
+    let states = (0..=pages).map(|p| Look::state(case, p));
+    let last = pages.checked_sub(1).filter(|p| *p > 3);
+    let places = (0..=pages.min(3)).chain(last).flat_map(move |p| {
         let first = shape.start.saturating_add(p.saturating_mul(shape.page));
         let words = match pages {
             0 => 0,
-            _ => shape.page / shape.word,
+            _ => (shape.page / shape.word) as usize,
         };
         // the first word of all is a mark, and the last one stands at the end of the data; the places around the page are outside
-        let within = (0..words).map(move |word| first + word * shape.word);
+        let within =
+            spread(words, words <= LOOKED_AT).map(move |word| first + word as u32 * shape.word);
         let around = [
             0,
             first.wrapping_sub(4),
@@ -320,15 +314,7 @@ fn looks(case: &Case) -> impl Iterator<Item = Look> {
         ];
         within.chain(around).map(move |address| (p, address))
     });
-    let items = places.map(|(p, address)| {
-        let found = face::item(image, numbers(shape), p, address);
-        Look {
-            at: format!("the item at {address} of page {p}"),
-            found: (found.row, found.value),
-            expected: rules::item(image, shape, p, address),
-        }
-    });
-    states.chain(items)
+    states.chain(places.map(|(p, address)| Look::item(case, p, address)))
 }
 
 /// How large a case is to a reader.
@@ -355,7 +341,7 @@ fn show(case: &Case) {
     match &expected.failure {
         Some(name) => println!("the Rust:  {name}"),
         None => {
-            let answer = answer_of(case, &expected);
+            let answer = answer_of(case.call, &expected.numbers);
             println!(
                 "the Rust:  {}",
                 line(answer, &expected.image, &expected.buffer)
@@ -365,7 +351,7 @@ fn show(case: &Case) {
     let found = asked(case);
     println!(
         "libdock.a: {}",
-        line(found.answer, &found.image, &found.buffer)
+        line(found.answer, found.image.bytes(), found.buffer.bytes())
     );
     match difference(case) {
         _ if expected.failure.is_some() => println!("the judge cannot be asked"),

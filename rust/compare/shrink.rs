@@ -1,16 +1,20 @@
 //! Makes a differing case smaller, as long as it differs.
 use judge::{Case, Shape};
+use std::ops::Range;
+use std::time::{Duration, Instant};
 
-/// How many smaller cases are tried.
+/// How many smaller cases are tried, and for how long.
 const TRIES: usize = 20_000;
+const LONGEST: Duration = Duration::from_secs(60);
 
 pub fn shrunk(case: Case, differs: impl Fn(&Case) -> bool) -> Case {
+    let begun = Instant::now();
     let mut best = case;
     let mut left = TRIES;
     loop {
         let mut is_smaller = false;
         for step in steps(&best) {
-            if left == 0 {
+            if left == 0 || begun.elapsed() > LONGEST {
                 return best;
             }
             left -= 1;
@@ -31,78 +35,113 @@ type Step = Box<dyn Fn(&mut Case)>;
 
 /// The changes that are tried: large ones first. None of them undoes another, so that the tries come to an end.
 fn steps(case: &Case) -> Vec<Step> {
-    let Shape {
-        start,
-        end,
-        page,
-        word,
-    } = case.shape;
     let mut steps: Vec<Step> = vec![
         Box::new(|case| case.limit = None),
         Box::new(|case| case.overwrite = false),
         Box::new(|case| case.image.truncate(case.shape.end as usize)),
-        Box::new(move |case| {
+        Box::new(|case| {
+            let Shape { start, end, .. } = case.shape;
             let gone = (start as usize).min(case.image.len());
             case.image.drain(..gone);
             case.shape.start = 0;
             case.shape.end = end.saturating_sub(start);
         }),
     ];
-    // a page less
-    let pages = end
-        .saturating_sub(start)
-        .checked_div(page)
-        .unwrap_or(0)
-        .min(64);
-    for p in (0..pages).rev() {
-        steps.push(Box::new(move |case| {
-            let first = (case.shape.start + p * page) as usize;
-            let behind = first.saturating_add(page as usize);
-            if behind <= case.image.len() && case.shape.end >= page {
-                case.image.drain(first..behind);
-                case.shape.end -= page;
-            }
-        }));
+    steps.extend(fewer_pages(case));
+    steps.extend(smaller_pages(case));
+    steps.extend(shorter(case));
+    steps.extend(blanks(case));
+    steps
+}
+
+/// How many pages a range has, as far as a sound one goes.
+fn pages(shape: &Shape) -> u32 {
+    let length = shape.end.saturating_sub(shape.start);
+    length.checked_div(shape.page).unwrap_or(0).min(256)
+}
+
+/// Half of the pages less, or one.
+fn fewer_pages(case: &Case) -> Vec<Step> {
+    let page = case.shape.page as usize;
+    let pages = pages(&case.shape) as usize;
+    let halves = [pages / 2..pages, 0..pages / 2];
+    let ones = (0..pages).rev().map(|p| p..p + 1);
+    let gone = halves.into_iter().chain(ones);
+    gone.map(|gone| -> Step { Box::new(move |case| without_pages(case, page, &gone)) })
+        .collect()
+}
+
+fn without_pages(case: &mut Case, page: usize, gone: &Range<usize>) {
+    let start = case.shape.start as usize;
+    let (first, behind) = (start + gone.start * page, start + gone.end * page);
+    let end = case.shape.end as usize;
+    if behind <= case.image.len() && behind <= end {
+        case.image.drain(first..behind);
+        case.shape.end = (end - (behind - first)) as u32;
     }
-    // a word less on every page
-    let (page_size, word_size) = (page as usize, word as usize);
-    if pages > 0 && page > word && word > 0 && end as usize <= case.image.len() && start % page == 0
-    {
-        for gone in (1..page_size / word_size - 1).rev() {
-            steps.push(Box::new(move |case| {
-                let (from, to) = (case.shape.start as usize, case.shape.end as usize);
-                if case.shape.page != page || from != 0 || to > case.image.len() {
-                    return;
-                }
-                let mut image = vec![];
-                for bytes in case.image[..to].chunks(page_size) {
-                    image.extend_from_slice(&bytes[..gone * word_size]);
-                    image.extend_from_slice(&bytes[((gone + 1) * word_size).min(bytes.len())..]);
-                }
-                case.shape.page -= word;
-                case.shape.end = image.len() as u32;
-                image.extend_from_slice(&case.image[to..]);
-                case.image = image;
-            }));
-        }
+}
+
+/// Half of every page less, between its marks; or one word of every page.
+fn smaller_pages(case: &Case) -> Vec<Step> {
+    let Shape {
+        start,
+        end,
+        page,
+        word,
+    } = case.shape;
+    let is_sound = word > 0 && page > word && start.is_multiple_of(page);
+    if !is_sound || pages(&case.shape) == 0 || end as usize > case.image.len() {
+        return vec![];
     }
-    // shorter slips and buffers, and their bytes all alike
-    for length in [0, case.slip.len() / 2, case.slip.len().saturating_sub(1)] {
+    let (page, word) = (page as usize, word as usize);
+    let half = page / 2 / word * word;
+    let halves = [half - word..page - word, word..page - half + word];
+    let words = page / word;
+    let most = if words > 1024 { 0 } else { words - 1 };
+    let ones = (1..most).rev().map(|gone| gone * word..(gone + 1) * word);
+    let gone = halves.into_iter().filter(|_| half > word).chain(ones);
+    gone.map(|gone| -> Step { Box::new(move |case| without_bytes(case, page, &gone)) })
+        .collect()
+}
+
+/// The bytes of this place in every page less.
+fn without_bytes(case: &mut Case, page: usize, gone: &Range<usize>) {
+    let (from, to) = (case.shape.start as usize, case.shape.end as usize);
+    if case.shape.page as usize != page || from != 0 || to > case.image.len() {
+        return;
+    }
+    let mut image = vec![];
+    for bytes in case.image[..to].chunks(page) {
+        image.extend_from_slice(&bytes[..gone.start.min(bytes.len())]);
+        image.extend_from_slice(&bytes[gone.end.min(bytes.len())..]);
+    }
+    case.shape.page = (page - gone.len()) as u32;
+    case.shape.end = image.len() as u32;
+    image.extend_from_slice(&case.image[to..]);
+    case.image = image;
+}
+
+/// Shorter slips and buffers, and their bytes all alike.
+fn shorter(case: &Case) -> Vec<Step> {
+    let lengths = |length: usize| [0, length / 2, length.saturating_sub(1)];
+    let mut steps: Vec<Step> = vec![];
+    for length in lengths(case.slip.len()) {
         steps.push(Box::new(move |case| case.slip.truncate(length)));
     }
-    for length in [
-        0,
-        case.buffer.len() / 2,
-        case.buffer.len().saturating_sub(1),
-    ] {
+    for length in lengths(case.buffer.len()) {
         steps.push(Box::new(move |case| case.buffer.truncate(length)));
     }
     steps.push(Box::new(|case| case.slip.fill(0)));
     steps.push(Box::new(|case| case.buffer.fill(0)));
-    // pages and words that are blank
+    steps
+}
+
+/// Pages and words that are blank; of a large image its pages alone.
+fn blanks(case: &Case) -> Vec<Step> {
+    let mut steps: Vec<Step> = vec![];
     let length = case.image.len();
-    for unit in [page_size, word_size] {
-        if unit == 0 {
+    for unit in [case.shape.page as usize, case.shape.word as usize] {
+        if unit == 0 || length / unit > TRIES {
             continue;
         }
         for at in (0..length).step_by(unit) {

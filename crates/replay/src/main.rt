@@ -22,7 +22,8 @@ ghost use lib.ListN.{length};
 use libc::STDIN_FILENO;
 use record::Record;
 
-// The largest range, 64 pages of 4,096 bytes, and eight such pages more: an image may begin before its range and end behind it.
+// The largest range that is played, 4 pages of 65,536 bytes, and 32 KiB more: an image may begin before its range and end behind it. A
+// range may have 16 MiB; those are left to ./compare --large, so that this room stays small.
 const IMAGE: usize = 294912;
 // The image, and behind it the copy.
 const ROOM: usize = 589824;

@@ -31,8 +31,9 @@ impl NorFlashError for Fault {
     }
 }
 
-/// More reads than any call makes that ends: 64 pages of 1,024 words take some hundred thousand for each pass.
-const MOST_READS: u32 = 1 << 24;
+/// More reads than any call makes that ends. 256 pages of 16,384 words are 2^22 words. A scan reads a word twice at most, a call scans
+/// a page twice at most, and does all of it once more after a repair: 2^25 reads, and those of the marks.
+const MOST_READS: u32 = 1 << 26;
 
 /// The flash without its type: one body of code serves all pairs of word and page.
 pub struct Chip {

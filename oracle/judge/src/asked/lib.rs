@@ -65,27 +65,29 @@ macro_rules! table {
     };
 }
 
-/// The pairs in use: for each word every page from the smallest allowed up to 256 bytes and up to 16 words, and 512, 1,024,
-/// 2,048 and 4,096.
+/// The pairs in use: for each word every page from the smallest allowed up to 256 bytes and up to 16 words, and each power of two
+/// from 512 to 65,536. By word and page, in order.
 #[cfg(not(wrapping))]
 #[rustfmt::skip]
 pub static IN_USE: &[Instance] = table! { whole:
     4 x 5 6 7 8 9 10 11 12 13 14 15 16 17 18 19 20 21 22 23 24 25 26 27 28 29 30 31 32 33 34 35 36 37 38 39 40 41 42 43 44 45 46 47
-        48 49 50 51 52 53 54 55 56 57 58 59 60 61 62 63 64 128 256 512 1024;
-    8 x 4 5 6 7 8 9 10 11 12 13 14 15 16 17 18 19 20 21 22 23 24 25 26 27 28 29 30 31 32 64 128 256 512;
-    16 x 4 5 6 7 8 9 10 11 12 13 14 15 16 32 64 128 256;
-    32 x 4 5 6 7 8 9 10 11 12 13 14 15 16 32 64 128;
+        48 49 50 51 52 53 54 55 56 57 58 59 60 61 62 63 64 128 256 512 1024 2048 4096 8192 16384;
+    8 x 4 5 6 7 8 9 10 11 12 13 14 15 16 17 18 19 20 21 22 23 24 25 26 27 28 29 30 31 32 64 128 256 512 1024 2048 4096 8192;
+    16 x 4 5 6 7 8 9 10 11 12 13 14 15 16 32 64 128 256 512 1024 2048 4096;
+    32 x 4 5 6 7 8 9 10 11 12 13 14 15 16 32 64 128 256 512 1024 2048;
 };
 
 /// The few that the selftest needs.
 #[cfg(wrapping)]
-pub static IN_USE: &[Instance] = table! { whole: 4 x 5 8; 16 x 4; 32 x 4; };
+pub static IN_USE: &[Instance] = table! { whole: 4 x 5 8 16384; 16 x 4; 32 x 4; };
 
-/// Pairs that document 01 refuses, for the check alone: small pages, large words, words between the allowed ones.
+/// Pairs that document 01 refuses, for the check alone: small pages, large words, words between the allowed ones; and pages over
+/// 65,536, up to the last that 32 bits can say.
 static CHECKED: &[Instance] = table! { checked:
-    1 x 8 11; 2 x 4 7 16; 3 x 4 6 7 16; 5 x 2 5 6 8; 6 x 4 5 8 1400; 12 x 3 4 5; 24 x 3 4 5;
-    4 x 1 2 3 4 2048; 8 x 1 2 3 1024; 16 x 1 2 3 512; 32 x 1 2 3 256;
-    33 x 3 4 5; 48 x 3 4 5; 64 x 3 4 5 128; 128 x 3 4 5; 4096 x 1 4;
+    1 x 8 11; 2 x 4 7 16; 3 x 4 6 7 16; 5 x 2 5 6 8; 6 x 4 5 8 10923; 12 x 3 4 5; 24 x 3 4 5;
+    4 x 1 2 3 4 16385 32768 536870912 1073741823; 8 x 1 2 3 8193 16384 268435456 536870911;
+    16 x 1 2 3 4097 8192 134217728 268435455; 32 x 1 2 3 2049 4096 67108864 134217727;
+    33 x 3 4 5; 48 x 3 4 5; 64 x 3 4 5 1025; 128 x 3 4 5; 4096 x 1 4;
 };
 
 /// Pairs that document 01 refuses, for the selftest, which asks what the crate makes of them.
@@ -97,10 +99,16 @@ static BEYOND: &[Instance] = &[
     Instance::whole::<4, 65552>(),
 ];
 
-/// The instance for a word and a page, where there is one.
+/// The instance for a word and a page, where there is one. Each call asks for it, and each look at a page, so it must be found fast.
 pub fn instance(word: u32, page: u32) -> Option<&'static Instance> {
-    let mut all = IN_USE.iter().chain(CHECKED).chain(BEYOND);
-    all.find(|instance| (instance.word, instance.page) == (word, page))
+    let pair = |instance: &Instance| (instance.word, instance.page);
+    match IN_USE.binary_search_by_key(&(word, page), pair) {
+        Ok(at) => Some(&IN_USE[at]),
+        Err(_) => {
+            let mut others = CHECKED.iter().chain(BEYOND);
+            others.find(|instance| pair(instance) == (word, page))
+        }
+    }
 }
 
 fn check<const WORD: usize, const PAGE: usize>(range: Range<u32>) -> Option<u32> {

@@ -116,6 +116,9 @@ fn histories(dice: Dice, sizes: Sizes, keeps_sizes: bool) -> Histories {
     }
 }
 
+/// The images of a history's calls have no more bytes together, but for the first ten.
+const LONG_HISTORY: usize = 1 << 25;
+
 #[derive(Clone, Copy)]
 enum Mood {
     Filling,
@@ -189,15 +192,18 @@ impl Histories {
         } else {
             dice.below(2 * sizes.page)
         };
-        self.image = dice.bytes(sizes.end() + behind);
-        self.image[sizes.start..sizes.end()].fill(0xff);
+        self.image = dice.bytes(sizes.start);
+        self.image.resize(sizes.end(), 0xff);
+        self.image.extend(dice.bytes(behind));
         match dice.below(6) {
             0 => (0..sizes.pages).for_each(|page| patch_page(dice, sizes, page, &mut self.image)),
             1 => (0..sizes.pages).for_each(|page| garble_page(dice, sizes, page, &mut self.image)),
             _ => (),
         }
         self.overwrites = dice.one_in(4);
-        self.left = 10 + dice.low(40 * sizes.pages);
+        // of a large image fewer calls: each copies it several times
+        let most = (LONG_HISTORY / self.image.len()).min(40 * sizes.pages);
+        self.left = 10 + dice.low(most.max(1));
     }
 
     fn call(&mut self) -> Case {
@@ -257,19 +263,27 @@ impl Histories {
     }
 }
 
+/// One geometry of so many has many pages, and one has large pages: a history of such a one takes far longer than others.
+const RARE: usize = 500;
+
 fn any_sizes(dice: &mut Dice) -> Sizes {
     let word = dice.pick(&[4, 4, 4, 8, 8, 16, 32]);
-    let smallest = 3 * word + 8_usize.next_multiple_of(word);
-    let page = if dice.one_in(40) {
-        dice.pick(&[512, 1024, 2048, 4096])
-    } else {
-        let largest = usize::max(256, 16 * word);
-        smallest + word * dice.low((largest - smallest) / word + 1)
-    };
-    let pages = match dice.below(60) {
-        0 => 1 + dice.below(64),
-        1..=4 => 1 + dice.below(12),
-        _ => 1 + dice.below(4),
+    let (page, pages) = match dice.below(RARE) {
+        0 => many_pages(dice, word),
+        1 => large_pages(dice),
+        _ => {
+            let page = if dice.one_in(40) {
+                dice.pick(&[512, 1024, 2048, 4096])
+            } else {
+                small_page(dice, word)
+            };
+            let pages = match dice.below(60) {
+                0 => 1 + dice.below(64),
+                1..=4 => 1 + dice.below(12),
+                _ => 1 + dice.below(4),
+            };
+            (page, pages)
+        }
     };
     let start = if dice.one_in(2) {
         0
@@ -284,6 +298,38 @@ fn any_sizes(dice: &mut Dice) -> Sizes {
     }
 }
 
+fn small_page(dice: &mut Dice, word: usize) -> usize {
+    let smallest = 3 * word + 8_usize.next_multiple_of(word);
+    let largest = usize::max(256, 16 * word);
+    smallest + word * dice.low((largest - smallest) / word + 1)
+}
+
+/// 65 to 256 pages, mostly small ones; up to 1 MiB together.
+fn many_pages(dice: &mut Dice, word: usize) -> (usize, usize) {
+    let page = if dice.one_in(12) {
+        dice.pick(&[512, 1024, 4096])
+    } else {
+        small_page(dice, word)
+    };
+    let pages = match dice.below(4) {
+        0 => 256,
+        1 => dice.pick(&[65, 128, 255]),
+        _ => 65 + dice.below(192),
+    };
+    (page, pages)
+}
+
+/// Pages of 8,192 to 65,536 bytes, mostly few of them; more than 1 MiB together once in a hundred times.
+fn large_pages(dice: &mut Dice) -> (usize, usize) {
+    let page = dice.pick(&[8192, 16_384, 32_768, 65_536, 65_536, 65_536]);
+    let pages = match dice.below(100) {
+        0 => 17 + dice.below(240),
+        1..=9 => 1 + dice.below(16),
+        _ => 1 + dice.below(3),
+    };
+    (page, pages)
+}
+
 fn any_slip(dice: &mut Dice, sizes: Sizes) -> Vec<u8> {
     let longest = sizes.longest();
     let length = match dice.below(24) {
@@ -293,7 +339,10 @@ fn any_slip(dice: &mut Dice, sizes: Sizes) -> Vec<u8> {
         3 => longest.saturating_sub(1),
         4..=9 => dice.below(2 * sizes.word + 2),
         10..=15 => dice.below(longest + 1),
-        16 if dice.one_in(100) => dice.pick(&[65_535, 65_536]),
+        // about the longest that any page takes, and the longest that a header could tell
+        16 if sizes.page == 65_536 || dice.one_in(100) => 65_519 + dice.below(18),
+        // lengths whose CRC is 0xFFFE: of the first by itself, of the others because it may not be 0xFFFF
+        17 if sizes.page > 4096 => dice.pick(&[496, 6870, 11_915, 17_969, 41_752]),
         _ => dice.low(longest + 1),
     };
     match dice.below(12) {
@@ -447,33 +496,32 @@ fn damage(dice: &mut Dice, sizes: Sizes, image: &mut [u8]) {
 /// Makes a shape that is refused, or one that is odd.
 fn break_shape(dice: &mut Dice, case: &mut Case) {
     let shape = &mut case.shape;
-    match dice.below(16) {
-        0 => shape.start += 1 + dice.below(shape.page as usize - 1) as u32,
-        1 => shape.end -= 1 + dice.below(shape.page as usize - 1) as u32,
+    let (page, word) = (shape.page, shape.word);
+    match dice.below(18) {
+        0 => shape.start += 1 + dice.below(page as usize - 1) as u32,
+        1 => shape.end -= 1 + dice.below(page as usize - 1) as u32,
         2 => core::mem::swap(&mut shape.start, &mut shape.end),
         3 => shape.end = shape.start,
         4 => shape.page = 0,
         5 => shape.word = 0,
         6 => shape.word = dice.pick(&[1, 2, 3, 5, 6, 7, 12, 24, 31, 33, 64, 128]),
-        7 => shape.word = shape.page,
-        8 => shape.page = shape.word * dice.pick(&[1, 2, 3, 4]),
-        9 => {
-            let (page, word) =
-                dice.pick(&[(8192, 4), (8192, 32), (8192, 64), (8400, 6), (384, 96)]);
-            *shape = Shape {
-                start: 0,
-                end: page,
-                page,
-                word,
-            };
-        }
-        10 => shape.end = shape.start + (65 + dice.below(3) as u32) * shape.page,
-        11 | 12 => {
-            let cut = 1 + dice.low(shape.page as usize);
+        7 => shape.word = page,
+        8 => shape.page = word * dice.pick(&[1, 2, 3, 4]),
+        9 => *shape = one_page(dice.pick(&[(65_600, 64), (65_538, 6), (65_537, 1), (384, 96)])),
+        10 => *shape = one_page((too_large_page(dice, word), word)),
+        11 => shape.end = shape.start + (257 + dice.below(3) as u32) * page,
+        12 | 13 => {
+            let cut = 1 + dice.low(page as usize);
             case.image.truncate(shape.end as usize - cut);
         }
-        13 => shape.end += shape.page * (1 + dice.below(3) as u32),
-        14 => shape.start = 0xffff_ffff / shape.page * shape.page,
+        14 => shape.end += page * (1 + dice.below(3) as u32),
+        15 => shape.start = u32::MAX / page * page,
+        16 => {
+            // the last pages that there are addresses for: a few, as many as are allowed, one more
+            let pages = dice.pick(&[0, 1, 2, 255, 256, 257]);
+            shape.end = u32::MAX / page * page;
+            shape.start = shape.end - pages * page;
+        }
         _ => {
             for number in [&mut shape.start, &mut shape.end] {
                 if dice.one_in(2) {
@@ -481,6 +529,27 @@ fn break_shape(dice: &mut Dice, case: &mut Case) {
                 }
             }
         }
+    }
+}
+
+/// One page of so many bytes, and its word.
+fn one_page((page, word): (u32, u32)) -> Shape {
+    Shape {
+        start: 0,
+        end: page,
+        page,
+        word,
+    }
+}
+
+/// A page over 65,536, made of words: by a word, by some, or as large as 32 bits can say.
+fn too_large_page(dice: &mut Dice, word: u32) -> u32 {
+    match dice.below(6) {
+        0 | 1 => 65_536 + word,
+        2 => 131_072,
+        3 => 1 << 31,
+        4 => 0_u32.wrapping_sub(word),
+        _ => (dice.number() as u32).max(65_537 + word) / word * word,
     }
 }
 

@@ -5,6 +5,7 @@ mod text;
 
 pub use asked::Store;
 use asked::{Answer, Ask, Chip, instance};
+use core::mem::take;
 use core::ops::Range;
 use std::cell::{Cell, RefCell};
 use std::panic::{AssertUnwindSafe, PanicHookInfo, catch_unwind, set_hook, take_hook};
@@ -58,15 +59,23 @@ pub struct Outcome {
 
 /// The outcome of a call: document 01's refusals of a shape, then the crate's answer.
 pub fn judge(case: &Case) -> Outcome {
+    judge_given(case.clone())
+}
+
+/// The same for a case that is given away: its image and buffer become the outcome's, and are not copied.
+pub fn judge_given(case: Case) -> Outcome {
     match refusal(&case.shape, case.image.len()) {
         Some(row) => Outcome {
             numbers: vec![row],
             failure: None,
             stores: vec![],
-            image: case.image.clone(),
-            buffer: case.buffer.clone(),
+            image: case.image,
+            buffer: case.buffer,
         },
-        None => ask(case, 0, case.shape.start..case.shape.end),
+        None => {
+            let allowed = case.shape.start..case.shape.end;
+            ask_given(case, 0, allowed)
+        }
     }
 }
 
@@ -89,7 +98,7 @@ pub fn row_by_rule(shape: &Shape, image: usize) -> Option<u32> {
         (13, page < 3 * word + 8_u64.next_multiple_of(word)),
         (14, word > 32),
         (15, ![4, 8, 16, 32].contains(&word)),
-        (16, page > 4096 || end.saturating_sub(start) / page > 64),
+        (16, page > 65_536 || end.saturating_sub(start) / page > 256),
         (17, end > image as u64),
     ];
     rules
@@ -113,6 +122,10 @@ pub fn refusal(shape: &Shape, image: usize) -> Option<u32> {
 /// What the crate makes of a call when nothing is decided before it. The image begins at the address `base`, and the crate may
 /// touch the addresses of `allowed`.
 pub fn ask(case: &Case, base: u32, allowed: Range<u32>) -> Outcome {
+    ask_given(case.clone(), base, allowed)
+}
+
+fn ask_given(mut case: Case, base: u32, allowed: Range<u32>) -> Outcome {
     let Shape {
         start,
         end,
@@ -120,7 +133,7 @@ pub fn ask(case: &Case, base: u32, allowed: Range<u32>) -> Outcome {
         word,
     } = case.shape;
     let mut chip = Chip {
-        image: case.image.clone(),
+        image: take(&mut case.image),
         base,
         allowed,
         start,
@@ -130,25 +143,9 @@ pub fn ask(case: &Case, base: u32, allowed: Range<u32>) -> Outcome {
         stores: vec![],
         reads: 0,
     };
-    let mut buffer = case.buffer.clone();
-    let asked = match case.call {
-        Call::Push => Ask::Push {
-            slip: &case.slip,
-            overwrite: case.overwrite,
-        },
-        Call::Peek => Ask::Peek {
-            buffer: &mut buffer,
-        },
-        Call::Pop => Ask::Pop {
-            buffer: &mut buffer,
-        },
-        Call::FindMaxFit => Ask::FindMaxFit,
-        Call::SpaceLeft => Ask::SpaceLeft,
-        Call::EraseAll => Ask::EraseAll,
-    };
     let answer = match instance(word, page) {
         None => Err(format!("no instance for word {word} and page {page}")),
-        Some(instance) => caught(|| (instance.ask)(asked, start..end, &mut chip)),
+        Some(instance) => caught(|| (instance.ask)(asked_by(&mut case), start..end, &mut chip)),
     };
     let (numbers, failure) = match answer {
         Ok(numbers) => (numbers, None),
@@ -159,7 +156,23 @@ pub fn ask(case: &Case, base: u32, allowed: Range<u32>) -> Outcome {
         failure,
         stores: chip.stores,
         image: chip.image,
-        buffer,
+        buffer: case.buffer,
+    }
+}
+
+/// What the crate is asked in a case.
+fn asked_by(case: &mut Case) -> Ask<'_> {
+    let buffer = &mut case.buffer;
+    match case.call {
+        Call::Push => Ask::Push {
+            slip: &case.slip,
+            overwrite: case.overwrite,
+        },
+        Call::Peek => Ask::Peek { buffer },
+        Call::Pop => Ask::Pop { buffer },
+        Call::FindMaxFit => Ask::FindMaxFit,
+        Call::SpaceLeft => Ask::SpaceLeft,
+        Call::EraseAll => Ask::EraseAll,
     }
 }
 

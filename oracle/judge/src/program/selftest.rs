@@ -1,8 +1,10 @@
 //! Document 01's cases ("Slips on both sides of the line"), the examples of crates/paper/specs/Examples.antt that speak of a call,
-//! the differences of docs/DIFFERENCES.md, and the judge's own rules, each against what the crate does.
+//! both sides of the limits of page and pages, the differences of docs/DIFFERENCES.md, and the judge's own rules, each against what
+//! the crate does.
 mod differences;
 mod document_01;
 mod examples;
+mod limits;
 mod own;
 mod queue;
 
@@ -18,6 +20,8 @@ pub fn run() -> bool {
     document_01::run(&mut report);
     println!("the paper's examples");
     examples::run(&mut report);
+    println!("the largest page and the most pages");
+    limits::run(&mut report);
     println!("where the crate and document 01 differ");
     differences::run(&mut report);
     println!("the judge itself");

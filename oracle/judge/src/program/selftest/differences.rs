@@ -105,12 +105,12 @@ fn shapes_the_crate_takes(report: &mut Report) {
     for (number, row, taken) in [
         (4, 9, shape(0, 30, 30, 4)),
         (5, 15, shape(0, 32, 32, 1)),
-        (6, 16, shape(0, 8192, 8192, 4)),
-        (6, 16, shape(0, 1300, 20, 4)),
+        (6, 16, shape(0, 65_540, 65_540, 4)),
+        (6, 16, shape(0, 5140, 20, 4)),
     ] {
         report.expect(
             &format!("{number}: the crate takes {taken:?}, document 01 says {row}"),
-            (ask_check(&taken), refusal(&taken, 8192)),
+            (ask_check(&taken), refusal(&taken, 65_540)),
             (Ok(None), Some(row)),
         );
     }
@@ -120,8 +120,8 @@ fn shapes_the_crate_takes(report: &mut Report) {
         vec![0],
     );
     report.expect(
-        "6: 65 pages work",
-        ask(&Queue::erased(4, 20, 65).case(Call::Push), 0, 0..1300).numbers,
+        "6: 257 pages work",
+        ask(&Queue::erased(4, 20, 257).case(Call::Push), 0, 0..5140).numbers,
         vec![0],
     );
 }

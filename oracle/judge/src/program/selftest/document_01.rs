@@ -22,18 +22,20 @@ fn erased() -> Queue {
 }
 
 fn length_crc(report: &mut Report) {
-    // 65,535 is the length whose CRC needs it; a page for it is larger than document 01 allows
-    let large = Queue::erased(4, 65552, 1);
-    let longest = Case {
-        slip: vec![1; 65535],
-        ..large.case(Call::Push)
-    };
-    let outcome = ask(&longest, 0, 0..65552);
-    report.expect(
-        "final length CRC 0xFFFF gives 0xFFFE",
-        (outcome.numbers, &outcome.image[8..12]),
-        (vec![0], &[0xff, 0xff, 0xfe, 0xff][..]),
-    );
+    // the shortest length whose CRC needs it; and the longest, for which document 01 allows no page that is large enough
+    for (page, length) in [(65_536, 6870_u16), (65_552, 65_535)] {
+        let push = Case {
+            slip: vec![1; length.into()],
+            ..Queue::erased(4, page, 1).case(Call::Push)
+        };
+        let outcome = ask(&push, 0, 0..page);
+        let [low, high] = length.to_le_bytes();
+        report.expect(
+            &format!("final length CRC 0xFFFF gives 0xFFFE: length {length}"),
+            (outcome.numbers, &outcome.image[8..12]),
+            (vec![0], &[low, high, 0xfe, 0xff][..]),
+        );
+    }
 }
 
 fn data_crcs(report: &mut Report) {

@@ -208,16 +208,28 @@ fn rows_of_shapes(report: &mut Report) {
         (11, 0, shape(32, 40, 32, 4)),
         (12, 0, shape(64, 32, 32, 4)),
         (13, 0, shape(0, 192, 192, 64)),
-        (14, 0, shape(0, 8192, 8192, 64)),
-        (15, 0, shape(0, 8400, 8400, 6)),
-        (16, 0, shape(0, 8192, 8192, 4)),
-        (16, 0, shape(0, 1300, 20, 4)),
-        (17, 1279, shape(0, 1280, 20, 4)),
+        (14, 0, shape(0, 65_600, 65_600, 64)),
+        (15, 0, shape(0, 65_538, 65_538, 6)),
+        (16, 0, shape(0, 65_540, 65_540, 4)),
+        (16, 0, shape(0, 5140, 20, 4)),
+        (17, 5119, shape(0, 5120, 20, 4)),
     ] {
         report.expect(
             &format!("row {row}: {checked:?}, an image of {image}"),
             refusal(&checked, image),
             Some(row),
+        );
+    }
+    // the largest page, the most pages, and both at the top of the addresses
+    for (image, checked) in [
+        (65_536, shape(0, 65_536, 65_536, 4)),
+        (5120, shape(0, 5120, 20, 4)),
+        (0xffff_0000, shape(0xfeff_0000, 0xffff_0000, 65_536, 4)),
+    ] {
+        report.expect(
+            &format!("accepted: {checked:?}, an image of {image}"),
+            refusal(&checked, image),
+            None,
         );
     }
 }

@@ -2,14 +2,27 @@
 use super::queue::Queue;
 use super::{Report, shape};
 use judge::slip::item;
-use judge::{Call, Case, Shape, Store, ask_check, refusal, row_by_rule};
+use judge::{Call, Case, Shape, Store, ask_check, pages, refusal, row_by_rule};
 
 pub fn run(report: &mut Report) {
+    instances(report);
     rules_for_shapes(report);
     slips_of_cases(report);
     stores(report);
     cut_erase(report);
     text_of_cases(report);
+}
+
+/// A search finds them only while their table is in order.
+fn instances(report: &mut Report) {
+    let mut lost = vec![];
+    for word in [4, 8, 16, 32] {
+        lost.extend(pages(word).into_iter().filter(|page| {
+            let one_page = shape(0, *page, *page, word);
+            ask_check(&one_page) != Ok(None)
+        }));
+    }
+    report.expect("every instance in use is found", lost, vec![]);
 }
 
 fn rules_for_shapes(report: &mut Report) {
@@ -31,23 +44,32 @@ fn rules_for_shapes(report: &mut Report) {
     );
 }
 
-/// Shapes on both sides of the rules.
+/// Shapes on both sides of the rules. A number that passes 32 bits is none of a shape's.
 fn shapes() -> Vec<Shape> {
     let mut shapes = vec![];
     let words = [1, 2, 3, 4, 5, 6, 8, 12, 16, 24, 32, 33, 48, 64, 128, 4096];
     for word in words {
-        for page in (1..=64)
-            .chain([128, 256, 512, 1024, 1400, 2048])
-            .map(|count| count * word)
-        {
+        for page in page_sizes(word) {
             for start in [0, page, 3 * page, page - 1, page + word] {
-                for end in [0, page, 2 * page, 4 * page, 70 * page, 2 * page - 1, start] {
-                    shapes.push(shape(start, end, page, word));
+                let ends = [0, 1, 2, 4, 70, 256, 257, 258, 259, 260].map(|count| count * page);
+                for end in ends.into_iter().chain([2 * page - 1, start]) {
+                    let [start, end, page, word] = [start, end, page, word].map(u32::try_from);
+                    if let (Ok(start), Ok(end), Ok(page), Ok(word)) = (start, end, page, word) {
+                        shapes.push(shape(start, end, page, word));
+                    }
                 }
             }
         }
     }
     shapes
+}
+
+/// Pages of so many words, and about the largest that is allowed and that there can be.
+fn page_sizes(word: u64) -> Vec<u64> {
+    let largest = [65_536, 131_072, 1 << 31, (1 << 32) - word].map(|page| page / word);
+    let counts = [128, 256, 512, 1024].into_iter().chain(largest);
+    let all = (1..=64).chain(counts.flat_map(|count| [count, count + 1]));
+    all.map(|count| count * word).collect()
 }
 
 fn slips_of_cases(report: &mut Report) {

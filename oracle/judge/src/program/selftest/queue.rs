@@ -78,7 +78,7 @@ impl Queue {
     pub fn list(&self) -> Vec<Vec<u8>> {
         let mut queue = self.clone();
         let mut slips = vec![];
-        while let outcome = queue.pop(4096)
+        while let outcome = queue.pop(self.shape.page as usize)
             && let [0, length] = outcome.numbers[..]
         {
             slips.push(outcome.buffer[..length as usize].to_vec());
