@@ -20,15 +20,6 @@ const RANDOM: usize = 16_384;
 
 const WORDS: [u32; 4] = [4, 8, 16, 32];
 
-const CALLS: [Call; 6] = [
-    Call::Push,
-    Call::Peek,
-    Call::Pop,
-    Call::FindMaxFit,
-    Call::SpaceLeft,
-    Call::EraseAll,
-];
-
 fn main() {
     let [_, calls_path, lines_path] = &std::env::args().collect::<Vec<_>>()[..] else {
         panic!("usage: replay CALLS LINES");
@@ -544,7 +535,7 @@ fn refusals(word: u32, record: &mut Record) {
             page,
             word,
         };
-        for call in CALLS {
+        for call in Call::ALL {
             let mut case = plain(call, shape, &image);
             case.limit = [None, Some(0), Some(u32::MAX as usize)][index % 3];
             case.slip = vec![7; 3];
@@ -614,7 +605,7 @@ fn large_shapes(word: u32, page: u32) -> [[u32; 4]; 11] {
 fn outside(word: u32, record: &mut Record) {
     let shape = shape(word, smallest(word), 2);
     for length in [0, shape.page, shape.end - 1, shape.end] {
-        for call in CALLS {
+        for call in Call::ALL {
             record.add(plain(call, shape, &erased(shape)[..length as usize]));
         }
     }

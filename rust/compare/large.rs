@@ -9,15 +9,6 @@ use std::time::Instant;
 const LARGEST_PAGE: u32 = 65_536;
 const MOST_PAGES: u32 = 256;
 
-const CALLS: [Call; 6] = [
-    Call::Push,
-    Call::Peek,
-    Call::Pop,
-    Call::FindMaxFit,
-    Call::SpaceLeft,
-    Call::EraseAll,
-];
-
 pub fn run() -> ExitCode {
     let begun = Instant::now();
     let mut calls = 0;
@@ -287,7 +278,7 @@ fn slip(n: usize, length: usize) -> Vec<u8> {
 fn refusals(calls: &mut usize) -> Result<(), End> {
     let before = *calls;
     for shape in [4, 8, 16, 32].into_iter().flat_map(about_the_limits) {
-        for (call, limit) in CALLS
+        for (call, limit) in Call::ALL
             .iter()
             .flat_map(|call| [None, Some(0), Some(1 << 20)].map(|limit| (*call, limit)))
         {

@@ -1,16 +1,8 @@
 //! The largest pages and the most of them, and what lies just beyond.
-use slipq::{Error, PageState, Queue, Shape, ShapeError};
+mod common;
 
-fn list(image: &[u8], shape: Shape) -> Vec<Vec<u8>> {
-    let mut copy = image.to_vec();
-    let mut queue = Queue::new(&mut copy, shape).unwrap();
-    let mut buffer = vec![0; shape.page as usize];
-    let mut slips = vec![];
-    while let Some(slip) = queue.pop(&mut buffer).unwrap() {
-        slips.push(slip.to_vec());
-    }
-    slips
-}
+use common::list;
+use slipq::{Error, PageState, Queue, Shape, ShapeError};
 
 #[test]
 fn the_limits_are_the_librarys_and_the_headers() {

@@ -1,4 +1,7 @@
 //! Document 01's "Slips on both sides of the line", asked through the wrapper.
+mod common;
+
+use common::list;
 use slipq::{Error, ItemState, PageState, Queue, Shape, ShapeError};
 
 const PAGE: Shape = Shape {
@@ -7,17 +10,6 @@ const PAGE: Shape = Shape {
     page: 32,
     word: 4,
 };
-
-fn list(image: &[u8], shape: Shape) -> Vec<Vec<u8>> {
-    let mut copy = image.to_vec();
-    let mut queue = Queue::new(&mut copy, shape).unwrap();
-    let mut buffer = vec![0; shape.page as usize];
-    let mut slips = vec![];
-    while let Some(slip) = queue.pop(&mut buffer).unwrap() {
-        slips.push(slip.to_vec());
-    }
-    slips
-}
 
 #[test]
 fn the_page_after_an_empty_slip_and_after_its_pop() {

@@ -21,6 +21,17 @@ pub enum Call {
     EraseAll,
 }
 
+impl Call {
+    pub const ALL: [Call; 6] = [
+        Call::Push,
+        Call::Peek,
+        Call::Pop,
+        Call::FindMaxFit,
+        Call::SpaceLeft,
+        Call::EraseAll,
+    ];
+}
+
 /// A geometry before it is checked.
 #[derive(Clone, Copy, Debug, PartialEq, Eq)]
 pub struct Shape {

@@ -109,15 +109,7 @@ fn most_pages(report: &mut Report) {
 /// Shapes beyond the limits, and where sums pass 2^32: each call is refused by its row, stores nothing and keeps the buffer.
 fn refused(report: &mut Report) {
     for (row, refused) in beyond() {
-        let kept = [
-            Call::Push,
-            Call::Peek,
-            Call::Pop,
-            Call::FindMaxFit,
-            Call::SpaceLeft,
-            Call::EraseAll,
-        ]
-        .map(|call| {
+        let kept = Call::ALL.map(|call| {
             let case = Case {
                 shape: refused,
                 image: vec![0x5a; 64],
