@@ -1,5 +1,7 @@
 // The two checksums of a slip on flash. Each is the remainder of a division of polynomials over GF(2), inverted and
 // adjusted; `Checksum` of the crate `paper` says of which.
+#![tactic(auto)]
+
 ghost use Rattle.paper.specs.Checksum.{Crc, LengthCrc, DataCrc, length_poly, data_poly};
 ghost use Rattle.checksum.specs.Register.{Shifted};
 

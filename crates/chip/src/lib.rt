@@ -1,5 +1,7 @@
 // The chip: the check of a geometry, the addresses that a geometry gives, and the functions that change the image: every store and every
 // erase of the queue is made here, and paid for here.
+#![tactic(auto)]
+
 ghost use Rattle.std.specs.Prelude.{◌≡◌, [], ◌∷◌, ◌++◌, min, ◌+◌, ◌≤◌, ◌<◌, length, take, drop, replicate};
 ghost use Rattle.paper.specs.Chip.{Event, round_up, round_down, header_size, page_start, range_end, data_start, data_size, data_end, page_of, writes, erase_page};
 ghost use Rattle.paper.specs.Refusals.{word_limit, allowed_word, rules, judge};
@@ -9,21 +11,21 @@ ghost use Rattle.chip.specs.Run.{spend, Did};
 use paper::{Checked, Geometry, Refusal, Shape};
 
 // An address and a page's number are types of their own, so that neither can be taken for the other.
-#[derive(Drop)]
+#[derive(Clone, Copy)]
 pub struct Address(pub u32);
 
-#[derive(Drop)]
+#[derive(Clone, Copy)]
 pub struct Page(pub u32);
 
 // How many stores may still be made. Without a limit `left` has no say.
-#[derive(Drop)]
+#[derive(Clone, Copy)]
 pub struct Budget {
     pub limited: bool,
     pub left: usize,
 }
 
 // Whether a store was wanted that the budget did not have, and what is left of it.
-#[derive(Drop)]
+#[derive(Clone, Copy)]
 pub struct Spent {
     pub cut: bool,
     pub budget: Budget,

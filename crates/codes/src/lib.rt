@@ -1,5 +1,7 @@
 // The answers of the calls, each as one number: document 01's row, and the value that comes with it. The C face hands them out, and the
 // program that replays calls prints them.
+#![tactic(auto)]
+
 ghost use Rattle.std.specs.Prelude.{◌≡◌, ◌<◌};
 ghost use Rattle.paper.specs.Refusals.{row, pushed_as, shown_as, fit_as, space_as, erased_as};
 ghost use Rattle.codes.specs.Codes.{code, row_code, code_of};

@@ -1,5 +1,7 @@
 // The counts, and the erase of everything: find_max_fit and space_left of the Rust's src/queue/mod.rs, each with its repair, and erase_all of
 // src/lib.rs, on a checked geometry and under a budget of stores.
+#![tactic(auto)]
+
 ghost use Rattle.std.specs.Prelude.{◌≡◌, false, ◌<◌, length};
 ghost use Rattle.paper.specs.declared.PageState.TheVariants.{PartialOpen};
 ghost use Rattle.paper.specs.Chip.{data_size, gives};
@@ -18,21 +20,21 @@ use page::Chosen;
 use paper::{Erased, Fit, Geometry, PageState, Refusal, Space};
 
 // The two counts. Neither stores anything; the repair between two runs of one does.
-#[derive(Drop)]
+#[derive(Clone, Copy)]
 enum Count {
     MaxFit,
     SpaceLeft,
 }
 
 // What a run of a count comes to.
-#[derive(Drop)]
+#[derive(Clone, Copy)]
 enum Counted {
     Corrupted,
     Given(Available),
 }
 
 // What a count with its repair comes to, and what it spent. Where it was cut, what stands beside `spent` has no say.
-#[derive(Drop)]
+#[derive(Clone, Copy)]
 struct Counting {
     spent: Spent,
     counted: Counted,

@@ -1,6 +1,8 @@
 // The C face of the queue: the check, one function for each call, whole and limited, and two that only look at the image. They take what C
 // can pass, numbers, slices and a geometry as a struct, and answer one number. None of those that C can call requires anything.
 // include/slipq.h declares them.
+#![tactic(auto)]
+
 ghost use Rattle.std.specs.Prelude.{◌≡◌, ◌-◌, ◌<◌, ◌≤◌, length};
 ghost use Rattle.paper.specs.Chip.{part};
 ghost use Rattle.paper.specs.Slip.{look};

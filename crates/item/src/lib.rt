@@ -1,5 +1,7 @@
 // Items on flash: a header and its payload, read and written, and the scan that goes from header to header. As in the Rust's src/item.rs,
 // start and end addresses are those of a page's data: page marks stand outside.
+#![tactic(auto)]
+
 ghost use Rattle.std.specs.Prelude.{◌≡◌, [], ◌∷◌, ◌+◌, ◌-◌, ◌%◌, ◌≤◌, ◌<◌, length, take};
 ghost use Rattle.paper.specs.Chip.{header_size, data_end, part, put, writes};
 ghost use Rattle.paper.specs.Slip.{number_of, encode, blank, decode};
@@ -17,7 +19,7 @@ use chip::{Address, Budget, MAX_WORD_SIZE, Page, Spent};
 use paper::Geometry;
 
 // `length` is the payload's, without its padding. `crc` is 0 for a popped item, where the Rust has `None`.
-#[derive(Drop)]
+#[derive(Clone, Copy)]
 pub struct ItemHeader {
     pub length: u16,
     pub crc: u32,
@@ -25,7 +27,7 @@ pub struct ItemHeader {
 
 // What stands at an address: nothing more, no header, or a header that the scan accepts. The Rust answers `Ok(None)`, `Err(Corrupted)` and
 // `Ok(Some(header))`.
-#[derive(Drop)]
+#[derive(Clone, Copy)]
 pub enum MaybeHeader {
     Nothing,
     Bad,
@@ -33,7 +35,7 @@ pub enum MaybeHeader {
 }
 
 // An accepted header, the address where it stands, and its payload's length rounded up to a word.
-#[derive(Drop)]
+#[derive(Clone, Copy)]
 pub struct Item {
     pub header: ItemHeader,
     pub address: Address,
@@ -42,7 +44,7 @@ pub struct Item {
 
 // An item that waits, one that was popped, a torn one; or the size that the buffer should have. The payload is in the buffer beside it: an
 // enum can hold no slice.
-#[derive(Drop)]
+#[derive(Clone, Copy)]
 pub enum MaybeItem {
     Present(Item),
     Erased(Item),
@@ -51,28 +53,28 @@ pub enum MaybeItem {
 }
 
 // What the scan that stops at live headers comes to.
-#[derive(Drop)]
+#[derive(Clone, Copy)]
 pub enum Next {
     Live(Item),
     End,
 }
 
 // What the scan that never stops comes to: the free spot, and how much is left from there to the end of the data.
-#[derive(Drop)]
+#[derive(Clone, Copy)]
 pub struct Free {
     pub address: Address,
     pub left: usize,
 }
 
 // Where a new item may begin.
-#[derive(Drop)]
+#[derive(Clone, Copy)]
 pub enum Spot {
     At(Address),
     Nowhere,
 }
 
 // The bytes that are left for a payload beside its header; or not even a header fits.
-#[derive(Drop)]
+#[derive(Clone, Copy)]
 pub enum Available {
     Bytes(usize),
     Nothing,

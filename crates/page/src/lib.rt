@@ -1,5 +1,7 @@
 // The pages: their marks and states, the ring that they form, the searches over it, and what changes a page's state. The order is that of
 // the Rust's src/lib.rs; the searches for the youngest and the oldest page, which src/queue/mod.rs has, stand at the end.
+#![tactic(auto)]
+
 ghost use Rattle.std.specs.Prelude.{◌≡◌, cond, [], ◌∷◌, ℕ, ◌+◌, ◌-◌, ◌≤◌, ◌<◌, length, replicate};
 ghost use Rattle.std.specs.Int.Count.{ones};
 ghost use Rattle.paper.specs.declared.PageState.TheVariants.{Open, PartialOpen, Closed};
@@ -14,7 +16,7 @@ use chip::{Address, Budget, MAX_PAGES, MAX_WORD_SIZE, Page, Spent};
 use paper::{Geometry, PageState};
 
 // What a search comes to: it met a Corrupted page, found a page, or came round with none.
-#[derive(Drop)]
+#[derive(Clone, Copy)]
 pub enum Sought {
     Failed,
     At(Page),
@@ -22,7 +24,7 @@ pub enum Sought {
 }
 
 // What the searches for the youngest and the oldest page come to: they always end at a page, or fail.
-#[derive(Drop)]
+#[derive(Clone, Copy)]
 pub enum Chosen {
     Corrupted,
     At(Page),

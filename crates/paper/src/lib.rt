@@ -1,7 +1,9 @@
 // The plain data that the definitions of specs/ and the code share. There is no function here.
 
 // What a caller gives, not checked yet: a range of addresses, a page size and a word size.
-#[derive(Drop)]
+#![tactic(auto)]
+
+#[derive(Clone, Copy)]
 pub struct Shape {
     pub start: u32,
     pub end: u32,
@@ -10,7 +12,7 @@ pub struct Shape {
 }
 
 // A shape that passed the check: `pages` pages of `page` bytes each from the address `start` on, written by words of `word` bytes.
-#[derive(Drop)]
+#[derive(Clone, Copy)]
 pub struct Geometry {
     pub start: u32,
     pub page: u32,
@@ -18,7 +20,7 @@ pub struct Geometry {
     pub pages: u32,
 }
 
-#[derive(Drop)]
+#[derive(Clone, Copy)]
 pub enum PageState {
     Open,
     PartialOpen,
@@ -27,7 +29,7 @@ pub enum PageState {
 }
 
 // The refusals of document 01, in the order of its rows.
-#[derive(Drop)]
+#[derive(Clone, Copy)]
 pub enum Refusal {
     ItemTooBig,
     FullStorage,
@@ -46,21 +48,21 @@ pub enum Refusal {
 }
 
 // What the check of a shape comes to.
-#[derive(Drop)]
+#[derive(Clone, Copy)]
 pub enum Checked {
     Accepted(Geometry),
     Refused(Refusal),
 }
 
 // What each call answers.
-#[derive(Drop)]
+#[derive(Clone, Copy)]
 pub enum Pushed {
     Done,
     Refused(Refusal),
 }
 
 // Peek and pop: a slip of this length stands at the buffer's front, or no item is present.
-#[derive(Drop)]
+#[derive(Clone, Copy)]
 pub enum Shown {
     Slip(usize),
     Empty,
@@ -68,7 +70,7 @@ pub enum Shown {
 }
 
 // find_max_fit: the longest length, or that there is none.
-#[derive(Drop)]
+#[derive(Clone, Copy)]
 pub enum Fit {
     Longest(usize),
     Nothing,
@@ -76,14 +78,14 @@ pub enum Fit {
 }
 
 // space_left
-#[derive(Drop)]
+#[derive(Clone, Copy)]
 pub enum Space {
     Left(usize),
     Refused(Refusal),
 }
 
 // erase_all
-#[derive(Drop)]
+#[derive(Clone, Copy)]
 pub enum Erased {
     Done,
     Refused(Refusal),

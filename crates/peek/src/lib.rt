@@ -1,4 +1,6 @@
 // Peek and pop: what the two calls make of what the search finds. Names and order are those of the Rust's src/queue/mod.rs.
+#![tactic(auto)]
+
 ghost use Rattle.std.specs.Prelude.{length};
 ghost use Rattle.paper.specs.Refusals.{shown_as};
 ghost use Rattle.paper.specs.Search as plans;

@@ -1,5 +1,7 @@
 // Push: a slip that is not too big gets a spot, and is written there. The search for the spot goes in the order of the Rust's push_inner:
 // the youngest page is marked, then it is scanned, and where it has no room the next page is turned to.
+#![tactic(auto)]
+
 ghost use Rattle.std.specs.Prelude.{◌≡◌, cond, false, not, ◌&&◌, [], ◌∷◌, ◌++◌, ◌<◌, eqb, length};
 ghost use Rattle.paper.specs.Chip.{erase_page, bind, gives};
 ghost use Rattle.paper.specs.Scan.{page_walk, any_live};
@@ -17,7 +19,7 @@ use page::Chosen;
 use paper::{Geometry, PageState, Pushed, Refusal};
 
 // What the search for a spot comes to: it fails with Corrupted, the storage is full, or the item is to begin at an address.
-#[derive(Drop)]
+#[derive(Clone, Copy)]
 enum Tried {
     Fails,
     Full,
@@ -25,7 +27,7 @@ enum Tried {
 }
 
 // The same, and what was spent. Where the search was cut, its answer has no say.
-#[derive(Drop)]
+#[derive(Clone, Copy)]
 struct Trying {
     spent: Spent,
     answer: Tried,

@@ -1,5 +1,7 @@
 // The public face of the queue: the check of a geometry, and six calls, each whole and with a limit on its stores. They take any shape,
 // image, slip, buffer and limit: none of them requires anything. The two forms of a call share one body, which runs under a budget.
+#![tactic(auto)]
+
 ghost use Rattle.std.specs.Prelude.{◌≡◌, length};
 ghost use Rattle.paper.specs.Refusals.{check, pushed_as, shown_as, fit_as, space_as, erased_as};
 ghost use Rattle.paper.specs.Calls.{pushes, peeks, pops, fits, spaces, erases_all};

@@ -13,6 +13,8 @@
 //
 // A call prints a line: its letter, its answer's code, the image, and the slip or buffer. Up to 64 bytes are printed whole, more by their
 // data checksum. An input that is not of this form ends the run with a line that says why.
+#![tactic(auto)]
+
 mod call;
 mod print;
 mod record;

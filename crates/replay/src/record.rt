@@ -3,7 +3,7 @@ ghost use Rattle.std.specs.Prelude.{◌≤◌};
 
 use paper::Shape;
 
-#[derive(Drop)]
+#[derive(Clone, Copy)]
 pub struct Record {
     pub letter: u8,
     pub flags: u8,

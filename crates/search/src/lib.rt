@@ -1,5 +1,7 @@
 // The search for the first present item, which peek and pop share. Names and order are those of the Rust's src/queue/mod.rs, where it is the
 // first step of an iterator.
+#![tactic(auto)]
+
 ghost use Rattle.std.specs.Prelude.{◌≡◌, ◌≤◌, ◌<◌, length};
 ghost use Rattle.paper.specs.Chip.{page_start, data_end};
 ghost use Rattle.paper.specs.Pages.{oldest};
@@ -21,7 +23,7 @@ use page::Chosen;
 use paper::{Geometry, PageState};
 
 // Where a search stands: at an address, from which it reads on in that address's page, or behind a page, which it leaves.
-#[derive(Drop)]
+#[derive(Clone, Copy)]
 pub enum NextAddress {
     Address(Address),
     PageAfter(Page),
@@ -29,7 +31,7 @@ pub enum NextAddress {
 
 // What reading the items of a page comes to: none is present; one is too long for the buffer, and was looked for from this address; or this
 // one is present.
-#[derive(Drop)]
+#[derive(Clone, Copy)]
 enum Met {
     Passed,
     TooSmall(Address, usize),
@@ -38,7 +40,7 @@ enum Met {
 
 // What finding the next item comes to, with where the search then stands. It has Failed where it met a Corrupted page, and may be run again
 // from that stand.
-#[derive(Drop)]
+#[derive(Clone, Copy)]
 pub enum Ended {
     Nothing(NextAddress),
     TooSmall(NextAddress, usize),
@@ -47,7 +49,7 @@ pub enum Ended {
 }
 
 // What a search comes to: Corrupted where one of its steps failed again.
-#[derive(Drop)]
+#[derive(Clone, Copy)]
 pub enum Found {
     Nothing,
     TooSmall(usize),
@@ -56,32 +58,32 @@ pub enum Found {
 }
 
 // What one turn of the search comes to: it goes on from another stand, or ends.
-#[derive(Drop)]
+#[derive(Clone, Copy)]
 enum Turn {
     Goes(NextAddress),
     Ends(Ended),
 }
 
 // What each part of the search comes to, and what it spent. Where it was cut, what stands beside `spent` has no say.
-#[derive(Drop)]
+#[derive(Clone, Copy)]
 pub struct Starting {
     pub spent: Spent,
     pub start: Chosen,
 }
 
-#[derive(Drop)]
+#[derive(Clone, Copy)]
 struct Turned {
     spent: Spent,
     turn: Turn,
 }
 
-#[derive(Drop)]
+#[derive(Clone, Copy)]
 pub struct Stepped {
     pub spent: Spent,
     pub ended: Ended,
 }
 
-#[derive(Drop)]
+#[derive(Clone, Copy)]
 pub struct Searched {
     pub spent: Spent,
     pub found: Found,
