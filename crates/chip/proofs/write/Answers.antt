@@ -12,7 +12,7 @@ store_word-r-requires c =
     let a = c.args in
     let l = c.loop-i in
     let f : length (take a.g.word c.padded_word-word.result) ≡ a.g.word =
-        ap length c.padded_word-word.ensures ∙ length_padded a.g.word (drop l.i a.bytes.now) in
+    ap length c.padded_word-word.ensures ∙ length_padded a.g.word (drop l.i a.bytes.now) in
     omega (arith, round_up_step a.g.word (length a.bytes.now - l.i) (omega arith) (omega arith))
 
 pub returns-then-r : goal.returns-then-r
