@@ -78,6 +78,7 @@ fn check_sizes(n: usize, s: Shape) -> Checked
     check_limits(n, s)
 }
 
+#[tactic(auto, unfolding(paper::specs::Refusals::allowed_word))]
 fn is_allowed_word(w: u32) -> bool
     ensures { result ≡ allowed_word w }
 {
@@ -118,6 +119,7 @@ pub fn round_up(n: usize, w: usize) -> usize
 }
 
 // round_down_to_alignment
+#[tactic(auto, unfolding(paper::specs::Chip::round_down), using(laws::proofs::Rounding::round_down_le))]
 pub fn round_down(n: usize, w: usize) -> usize
     requires { 0 < w }
     ensures { (result ≡ round_down w n) × (result ≤ n) }
@@ -126,6 +128,7 @@ pub fn round_down(n: usize, w: usize) -> usize
 }
 
 // What a header takes: its 8 bytes, rounded up to a word.
+#[tactic(auto, unfolding(paper::specs::Chip::header_size))]
 pub fn header_size(g: Geometry) -> usize
     requires { Good g }
     ensures { result ≡ header_size g }
