@@ -1,0 +1,7 @@
+-- `checksum::crc16` meets its contract: each turn feeds a byte, by `ByteLoop` at the degree 16. Assumes nothing.
+use Rattle.paper.specs.Checksum.{length_poly}
+use Rattle.checksum.proofs.ByteLoop.{Fed}
+use Rattle.checksum.proofs.crc16.Given as goal
+
+abbrev pub invariant-loop-i : goal.invariant-loop-i
+invariant-loop-i l = Fed 16 length_poly 0xffff l.data l.crc l.i
