@@ -9,6 +9,7 @@ ghost use Rattle.codes.specs.Codes.{code, row_code, code_of};
 use paper::{Erased, Fit, Pushed, Refusal, Shown, Space};
 
 // Lengths and sizes are far below 2^32; the remainder keeps the sum within 64 bits for any number.
+#[tactic(auto, unfolding(crate::specs::Codes::code))]
 pub fn coded(row: u64, value: usize) -> u64
     requires { row < 4294967296 }
     ensures { result ≡ code row value }
@@ -17,6 +18,7 @@ pub fn coded(row: u64, value: usize) -> u64
 }
 
 // The rows of document 01.
+#[tactic(auto, unfolding(paper::specs::Refusals::row))]
 pub fn refusal_code(refusal: Refusal) -> u64
     ensures { result ≡ row_code (row refusal) }
 {
