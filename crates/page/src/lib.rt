@@ -101,6 +101,7 @@ pub fn find_first_page(
     Sought::Missing
 }
 
+#[tactic(auto, using(laws::proofs::Ring::next_round, laws::proofs::Ring::next_on))]
 pub fn next_page(g: Geometry, p: Page) -> Page
     requires { p.0 < g.pages }
     ensures { (result.0 ≡ next g p.0) × (result.0 < g.pages) }
