@@ -1,5 +1,5 @@
 -- `page::find_first_page` meets its contract: a page that is looked at ends the search, or it goes on from the next. Assumes nothing.
-use Rattle.std.proofs.Common.{◌≡◌, ℕ, refl, sym, ◌∙◌, arith}
+use Rattle.std.proofs.Common.{◌≡◌, ℕ, sym, ◌∙◌, arith}
 use Rattle.paper.specs.Pages.{from}
 use Rattle.page.proofs.Searching.{first_failed, first_here, first_on, first_covered, first_none}
 use Rattle.page.proofs.find_first_page.Goals as goal

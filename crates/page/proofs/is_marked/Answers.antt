@@ -22,8 +22,8 @@ loop-i-preserved c =
     let f : a.at.0 + l.i + 1 ≡ a.at.0 + (l.i + 1) = omega arith in
     let s = rw (e, f) at (zeros_step a.image.now (a.at.0 + l.i) (a.g.word - l.i) (omega arith) (omega arith)) in
     elim c.if-b.branch [
-      then-b+else-n-ge-HALF_MARKER_BITS w ↦ record { in_mark = omega arith; few = omega arith; counted = omega (arith, s, w.zero_bits-n.ensures.0) }
-    | else-b w ↦ record { in_mark = omega arith; few = omega arith; counted = omega (arith, rw w.if-b.false at s, ones-ones 8) }
+      | then-b+else-n-ge-HALF_MARKER_BITS w ↦ record { in_mark = omega arith; few = omega arith; counted = omega (arith, s, w.zero_bits-n.ensures.0) }
+      | else-b w ↦ record { in_mark = omega arith; few = omega arith; counted = omega (arith, rw w.if-b.false at s, ones-ones 8) }
     ]
 
 pub returns : goal.returns
