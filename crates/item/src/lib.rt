@@ -85,12 +85,14 @@ const MAX_HEADER_SIZE: usize = MAX_WORD_SIZE;
 
 // ---- bytes
 
+#[tactic(auto, unfolding(paper::specs::Slip::number_of))]
 fn le16(a: u8, b: u8) -> u16
     ensures { result ≡ number_of (a ∷ b ∷ []) }
 {
     (a as u16) + 256 * (b as u16)
 }
 
+#[tactic(auto, unfolding(paper::specs::Slip::number_of))]
 fn le32(a: u8, b: u8, c: u8, d: u8) -> u32
     ensures { result ≡ number_of (a ∷ b ∷ c ∷ d ∷ []) }
 {
