@@ -102,7 +102,8 @@ fit_told = told (λ r. Small (2 ^ 32 - 1) (numbers (fit_as r))) (λ r. code_of (
 
 space_told : ToldApart (2 ^ 32) space_as
 unfolding numbers
-space_told = told (λ r. Small (2 ^ 32) (numbers (space_as r))) (λ r. code_of (space_as r)) (back (λ v. space.Left (get_or v 0 0)) (space.Left 0) space.Refused) go
+space_told = told (λ r. Small (2 ^ 32) (numbers (space_as r))) (λ r. code_of (space_as r))
+    (back (λ v. space.Left (get_or v 0 0)) (space.Left 0) space.Refused) go
   where
     go : (r : Space) → Small (2 ^ 32) (numbers (space_as r)) → back (λ v. space.Left (get_or v 0 0)) (space.Left 0) space.Refused (code_of (space_as r)) ≡ r
     go (space.Left n) s = back_value (λ v. space.Left (get_or v 0 0)) (space.Left 0) space.Refused n s

@@ -89,7 +89,8 @@ module _ {g : Geometry} {n : ℕ} (S : Laid g n) (im jm : List ℕ) (p : ℕ) (e
   walk_same = page-bytes.walk_same g marks im jm p e
 
 -- from a word of it on
-pub walk_on_same : {g : Geometry} {n : ℕ} → Laid g n → (im jm : List ℕ) (a : ℕ) → ReadableWord g a → page_bytes g im (page_of g a) ≡ page_bytes g jm (page_of g a)
+pub walk_on_same : {g : Geometry} {n : ℕ} → Laid g n → (im jm : List ℕ) (a : ℕ) → ReadableWord g a
+    → page_bytes g im (page_of g a) ≡ page_bytes g jm (page_of g a)
     → walk_on g im a ≡ walk_on g jm a
 unfolding walk_on page_bytes
 walk_on_same {g} S im jm a R e =

@@ -79,7 +79,8 @@ module _ (g : Geometry) (n : ℕ) where
   meet_append [] ks = refl
   meet_append (h ∷ hs) ks = by (not (live h)) (ltb n (round_up g.word h.len)) (present h) (meet_append hs ks)
     where
-      by : (a b c : Bool) → meet (hs ++ ks) ≡ then_meet (meet hs) (meet ks) → meet_by a b c h (meet (hs ++ ks)) ≡ then_meet (meet_by a b c h (meet hs)) (meet ks)
+      by : (a b c : Bool) → meet (hs ++ ks) ≡ then_meet (meet hs) (meet ks)
+          → meet_by a b c h (meet (hs ++ ks)) ≡ then_meet (meet_by a b c h (meet hs)) (meet ks)
       by true b c e = e
       by false true c e = refl
       by false false true e = refl

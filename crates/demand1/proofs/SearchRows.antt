@@ -26,7 +26,7 @@ use Rattle.demand1.proofs.Searches.{oldest_in}
 use Rattle.demand1.proofs.Repairs.{Mended, opened, kept, repaired_long}
 use Rattle.demand1.proofs.Repairs as repairs
 use Rattle.demand1.proofs.Steps.{is_fails, fails_not, steps_gives, steps_again}
-use Rattle.demand1.proofs.ReadingHeads.{meet, seen}
+use Rattle.demand1.proofs.ReadingHeads.{meet}
 use Rattle.demand1.proofs.HeadCopies.{copies_join, Kept, copies_none, read_of}
 use Rattle.demand1.proofs.Ways.{Clears}
 use Rattle.demand1.proofs.Searching.{Went, search_went}

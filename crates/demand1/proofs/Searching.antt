@@ -12,7 +12,7 @@ use Rattle.paper.specs.declared.PageState.TheVariants.{Open, Corrupted}
 use Rattle.paper.specs.Chip.{data_start, page_bytes, Event, image_after, Plan, plan, bind, Try, gives}
 use Rattle.paper.specs.Pages.{state, same, next, around, from, oldest, repair}
 use Rattle.paper.specs.Steps.{with_repair}
-use Rattle.paper.specs.Search.{long, Stand, from_address, after_page, Outcome, nothing, Ended, ends_at, leave_page, next_item, next_step, outcome_of, search_on}
+use Rattle.paper.specs.Search.{Stand, from_address, after_page, Outcome, nothing, Ended, ends_at, leave_page, next_item, next_step, outcome_of, search_on}
 use Rattle.laws.proofs.Accepted.{Laid}
 use Rattle.laws.proofs.Marks.{same_is}
 use Rattle.laws.proofs.Ring.{next_in, turn_zero}
@@ -62,7 +62,8 @@ module _ {g : Geometry} {n : ℕ} (S : Laid g n) (im : List ℕ) (b old : ℕ) (
       by (opened a o) = o
       by (kept a e) = let s = ap (λ (x : PageState). same x Corrupted) c in never (cc)
 
-  stops_open : (clears : Bool) (jm : List ℕ) (q : ℕ) → state g jm (next g q) ≡ Open → next_step g b old clears (after_page q) jm ≡ ends_at (after_page q) nothing
+  stops_open : (clears : Bool) (jm : List ℕ) (q : ℕ) → state g jm (next g q) ≡ Open
+      → next_step g b old clears (after_page q) jm ≡ ends_at (after_page q) nothing
   unfolding next_step next_item leave_page
   stops_open clears jm q o =
       let z : 2 * g.pages ≡ suc (2 * g.pages - 1) = omega (arith, S.sized.some) in

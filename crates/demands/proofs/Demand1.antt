@@ -74,7 +74,8 @@ module _ (s : Shape) (f : Form) (c : Call) (i o e : List ℕ) (x : Answer) (h : 
     same = demand1.in_range.no_say s i j A c
 
     image_of_lem : (l q m : List ℕ) (z : Answer) → Promised s f c l q m z → q ≡ image_limit (limit_of f (requested s l c)) s l c
-    image_of_lem l q m z t = (whole_of s l q m z f c t).image ∙ ap (λ (r : Plan Answer). image_after (geometry_of s) r.events l) (as_limited f (requested s l c))
+    image_of_lem l q m z t =
+        (whole_of s l q m z f c t).image ∙ ap (λ (r : Plan Answer). image_after (geometry_of s) r.events l) (as_limited f (requested s l c))
 
     buffer_is : (l q m : List ℕ) (z : Answer) → Promised s f c l q m z → Lent c → m ≡ buffer_limit (limit_of f (requested s l c)) s l c (buffer_of c)
     buffer_is l q m z t n = buffer_of_lem s l q m z f c t n ∙ rw (as_limited f (requested s l c))
