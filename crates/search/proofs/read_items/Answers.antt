@@ -1,0 +1,59 @@
+-- `search::read_items` meets its contract: reading what is left from here on is reading the whole from the start. Assumes nothing.
+use Rattle.std.proofs.Common.{length, arith}
+use Rattle.item.proofs.Live.{reaches_of, none_of_lem}
+use Rattle.item.proofs.Walking.{inside_on}
+use Rattle.search.proofs.ReadingItems.{none_read, small_read, present_read, torn_read, first_in, not_popped}
+use Rattle.search.proofs.read_items.Goals as goal
+
+pub returns-in-End : goal.returns-in-End
+returns-in-End c =
+    let a = c.args in
+    let l = c.loop-item in
+    record {
+      shows = l.invariant.completes _ _
+          (none_read a.g a.image.now _ _ _ l.buffer (none_of_lem _ _ _ _ _ c.next_live-next.ensures c.in-End.is));
+      within = tt;
+    }
+
+pub returns-in-Present : goal.returns-in-Present
+returns-in-Present c =
+    let a = c.args in
+    let l = c.loop-item in
+    let r = reaches_of _ _ _ _ _ c.next_live-next.ensures _ c.in-Live.is in
+    record {
+      shows = l.invariant.completes _ _
+          (present_read a.g a.image.now _ _ _ _ r l.buffer _ l.auto.buffer _ c.read_item-read.ensures _ c.in-Present.is);
+      within = (first_in a.g a.image.now _ (length a.buffer.now) l.invariant.inside l.invariant.top r, omega (arith, r.order));
+    }
+
+pub returns-in-TooSmall : goal.returns-in-TooSmall
+returns-in-TooSmall c =
+    let a = c.args in
+    let l = c.loop-item in
+    let r = reaches_of _ _ _ _ _ c.next_live-next.ensures _ c.in-Live.is in
+    record {
+      shows = l.invariant.completes _ _
+          (small_read a.g a.image.now _ _ _ _ r l.buffer _ l.auto.buffer _ c.read_item-read.ensures _ c.in-TooSmall.is);
+      within = (l.invariant.order, l.invariant.inside.order);
+    }
+
+pub logic_bug-requires : goal.logic_bug-requires
+logic_bug-requires c =
+    let a = c.args in
+    let l = c.loop-item in
+    let r = reaches_of _ _ _ _ _ c.next_live-next.ensures _ c.in-Live.is in
+    not_popped a.g a.image.now _ _ _ _ r l.buffer _ l.auto.buffer _ c.read_item-read.ensures _ c.in-Erased.is
+
+pub loop-item-preserved : goal.loop-item-preserved
+loop-item-preserved c =
+    let a = c.args in
+    let l = c.loop-item in
+    let e = c.next_item_address-from.ensures in
+    let r = reaches_of _ _ _ _ _ c.next_live-next.ensures _ c.in-Live.is in
+    record {
+      inside = inside_on l.invariant.inside (omega (arith, r.fits, e));
+      top = l.invariant.top;
+      order = omega (arith, l.invariant.order, r.order, e);
+      completes = λ f x v. l.invariant.completes f x
+          (torn_read a.g a.image.now _ _ _ _ r l.buffer _ l.auto.buffer _ c.read_item-read.ensures _ c.in-Corrupted.is (rw e at v));
+    }
