@@ -100,6 +100,7 @@ fn fit_from(image: &[u8], g: Geometry, current: Page) -> Counted
     }
 }
 
+#[tactic(auto, using(item::proofs::Serving::available_longest))]
 fn fit_behind(image: &[u8], g: Geometry, current: Page) -> Counted
     requires { Within g (length image.now) × (current.0 < g.pages) }
     ensures { counted_as result ≡ gives (longest g (page_walk g image.now current.0).rest) }
@@ -195,6 +196,7 @@ fn space_behind(image: &[u8], g: Geometry, page: Page) -> usize
 }
 
 // Whether all of a page may be used: by its state, and where that is Closed by its items.
+#[tactic(auto, unfolding(crate::specs::Counts::empty_by))]
 fn is_page_empty(image: &[u8], g: Geometry, page: Page, state: PageState) -> bool
     requires { Within g (length image.now) × (page.0 < g.pages) }
     ensures { result ≡ empty_by g image.now page.0 state }
