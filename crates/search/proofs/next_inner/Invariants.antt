@@ -15,7 +15,8 @@ invariant-loop-turns l = record {
   stands : StandIn l.g l.stand;
   completes : (o e : List ℕ) (r : Spent) (x : Try Stand Ended)
       → Showed l.g l.budget (next_item l.g (length l.initial.buffer) l.oldest.0 l.clears l.turns (stand_as l.stand) l.image) l.image o l.buffer e r x
-      → Showed l.g l.initial.budget (next_item l.g (length l.initial.buffer) l.oldest.0 l.clears l.initial.turns (stand_as l.initial.stand) l.initial.image) l.initial.image o l.initial.buffer e r x;
+      → Showed l.g l.initial.budget (next_item l.g (length l.initial.buffer) l.oldest.0 l.clears l.initial.turns (stand_as l.initial.stand)
+      l.initial.image) l.initial.image o l.initial.buffer e r x;
 }
 
 abbrev pub decreases-loop-turns : goal.decreases-loop-turns
