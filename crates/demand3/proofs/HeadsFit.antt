@@ -42,7 +42,7 @@ page_within : (g : Geometry) (im : List ℕ) (p : ℕ) → Each (Within g (data_
 unfolding page_walk page_data
 page_within g im p =
     walk_within g (data_size g) 0 (data_start g p) (part (data_start g p) (data_size g) im)
-        (omega (arith, length-take (data_size g) (drop (data_start g p) im)))
+    (omega (arith, length-take (data_size g) (drop (data_start g p) im)))
 
 on_the_way_within : (g : Geometry) (im : List ℕ) (old : ℕ) (ps : List ℕ) → Each (Within g (data_size g)) (on_the_way g im old ps)
 unfolding on_the_way

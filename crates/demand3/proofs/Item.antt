@@ -64,7 +64,7 @@ module _ (g : Geometry) (pos : 0 < g.word) (slip : List ℕ) where
   unfolding item_bytes padded_slip
   bytes_item h =
       bytes_append (header_of g slip) _ (bytes_encode g pos (data_crc slip) (length slip))
-          (bytes_append slip _ h (bytes_replicate (padding g slip) 0 (lit< tt)))
+      (bytes_append slip _ h (bytes_replicate (padding g slip) 0 (lit< tt)))
 
   pub item_words_lem : (a : ℕ) → item_at g a slip ≡ words g.word (item_words g slip) a (item_bytes g slip)
   unfolding item_at writes item_bytes item_words padded_slip header_size round_up

@@ -65,7 +65,7 @@ differs : Geometry → List ℕ → List ℕ → List ℕ → Bool
 differs g slip im [] = true
 differs g slip im (a ∷ l) =
     not (alike (part a (header_size g) im) (encode g (data_crc slip) (length slip)) && eqb
-        (data_crc (part (a + header_size g) (length slip) im)) (data_crc slip))
+    (data_crc (part (a + header_size g) (length slip) im)) (data_crc slip))
     && differs g slip im l
 
 stands : Geometry → List ℕ → Call → Power → Bool
@@ -226,7 +226,7 @@ unfolding slate blank_slate torn_push image_of ghost_of header_plan header_at ke
     look onward walk page_walk free_spot serves live any_live present payloads zero_bits is_set start_mark end_mark state set_start next around from
     all_pages first youngest oldest retry with_repair too_big take_page turn_page find_spot spot_on spot_step spot_for item_at push_at push allowed_word
     page_count rules geometry_of judge check waiting_on list_of waiting plan_of events_of image_next all_fairly fairly counts small clear
-        away stands differs alike
+    away stands differs alike
 sole_full =
     let fair = all_fairly_holds slate blank_slate no_ghost torn_push refl refl in
     record {

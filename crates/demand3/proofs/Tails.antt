@@ -47,4 +47,4 @@ module _ (g : Geometry) (pos : 0 < g.word) where
       let s = drop_at (encode g c n) rest (header_size g) (length_encode g pos c n) in
       let z : drop (item_size g n) (encode g c n ++ rest) ≡ drop u rest = sym (drop-drop u (header_size g) (encode g c n ++ rest)) ∙ ap (drop u) s in
       course_walk g pos (over (look_encoded g pos c n rest hc hn low room) (rw z here))
-          (blank_stop g (drop u rest) (blank_take (header_size g) (drop u rest) e))
+      (blank_stop g (drop u rest) (blank_take (header_size g) (drop u rest) e))
