@@ -3,7 +3,12 @@
 
 mod checksums;
 
-fn main() {
-    checksums::check_value();
-    checksums::cases();
+use std::io::{self, BufReader, BufWriter, Write};
+
+fn main(rt: HostRuntime) -> io::Result<()> {
+    let mut input = BufReader::new(rt.alloc(), rt.reader())?;
+    let mut output = BufWriter::new(rt.alloc(), io::writer(&rt))?;
+    checksums::check_value(&mut output)?;
+    checksums::cases(&mut input, &mut output)?;
+    output.flush()
 }

@@ -1,18 +1,24 @@
 // The calls. Each is made on the image, whole or with its limit.
 use crate::print;
 use crate::record::Record;
+use std::io::{self, Write};
 
 // No answer has this code.
 const UNKNOWN: u64 = 0xffff_ffff;
 
 // Answers whether there is such a call.
-pub fn play(image: &mut [u8], lent: &mut [u8], asked: Record) -> bool {
+pub fn play<W: Write>(
+    output: &mut W,
+    image: &mut [u8],
+    lent: &mut [u8],
+    asked: Record,
+) -> io::Result<bool> {
     let code = answer(image, lent, asked);
     if code == UNKNOWN {
-        return print::malformed(b"a letter that stands for nothing");
+        return print::malformed(output, "a letter that stands for nothing");
     }
-    print::line(asked.letter, code, image, lent);
-    true
+    print::line(output, asked.letter, code, image, lent)?;
+    Ok(true)
 }
 
 fn answer(image: &mut [u8], lent: &mut [u8], asked: Record) -> u64 {

@@ -19,10 +19,10 @@ mod call;
 mod print;
 mod record;
 
-ghost use Rattle.std.specs.Prelude.{◌≤◌, length};
+ghost use Rattle.std.specs.Prelude.{◌≤◌, length, IfOk};
 
-use libc::STDIN_FILENO;
 use record::Record;
+use std::io::{self, BufReader, BufWriter, Read, Write};
 
 // The largest range that is played, 4 pages of 65,536 bytes, and 32 KiB more: an image may begin before its range and end behind it. A
 // range may have 16 MiB; those are left to ./compare --large, so that this room stays small.
@@ -32,66 +32,92 @@ const ROOM: usize = 589824;
 // One more than the longest slip.
 const LENT: usize = 65536;
 
-fn main() {
+fn main(rt: HostRuntime) -> io::Result<()> {
+    let mut input = BufReader::new(rt.alloc(), rt.reader())?;
+    let mut output = BufWriter::new(rt.alloc(), io::writer(&rt))?;
     let mut room = [0u8; ROOM];
     let mut lent = [0u8; LENT];
-    replay(&mut room, &mut lent);
+    replay(&mut input, &mut output, &mut room, &mut lent)?;
+    output.flush()
 }
 
-// A proved loop has to end, and nothing says that the input does. So the loop counts its turns down, from a number that no run uses up.
-fn replay(room: &mut [u8], lent: &mut [u8])
+// A proved loop has to end, and nothing says that the input does. So the loop counts its turns, up to a number that no run reaches.
+fn replay<R: Read, W: Write>(
+    input: &mut R,
+    output: &mut W,
+    room: &mut [u8],
+    lent: &mut [u8],
+) -> io::Result<()>
     requires { (589824 ≤ length room.old) × (65536 ≤ length lent.old) }
 {
-    let mut turns = u64::MAX;
-    while turns > 0 && next_record(room, lent) {
-        turns -= 1;
+    for _ in 0..u64::MAX {
+        if !next_record(input, output, room, lent)? {
+            break;
+        }
     }
+    Ok(())
 }
 
 // Answers whether to go on.
-fn next_record(room: &mut [u8], lent: &mut [u8]) -> bool
+fn next_record<R: Read, W: Write>(
+    input: &mut R,
+    output: &mut W,
+    room: &mut [u8],
+    lent: &mut [u8],
+) -> io::Result<bool>
     requires { (589824 ≤ length room.old) × (65536 ≤ length lent.old) }
 {
     let mut field = [0u8; 32];
-    let read = io::read_full(STDIN_FILENO, &mut field);
+    let read = read_full(input, &mut field)?;
     if read < 32 {
-        return print::ended(read);
+        return print::ended(output, read);
     }
     let asked = record::decoded(&field);
     if asked.letter == b'L' {
-        return lay(room, asked);
+        return lay(input, output, room, asked);
     }
-    play(room, lent, asked)
+    play(input, output, room, lent, asked)
 }
 
-fn lay(room: &mut [u8], asked: Record) -> bool
+fn lay<R: Read, W: Write>(
+    input: &mut R,
+    output: &mut W,
+    room: &mut [u8],
+    asked: Record,
+) -> io::Result<bool>
     requires { 589824 ≤ length room.old }
 {
     let from = asked.at as usize;
     let to = from + (asked.count as usize);
     if to > IMAGE {
-        return print::malformed(b"bytes that the image has no room for");
+        return print::malformed(output, "bytes that the image has no room for");
     }
-    bring(&mut room[from..to], asked)
+    bring(input, output, &mut room[from..to], asked)
 }
 
-fn play(room: &mut [u8], lent: &mut [u8], asked: Record) -> bool
+fn play<R: Read, W: Write>(
+    input: &mut R,
+    output: &mut W,
+    room: &mut [u8],
+    lent: &mut [u8],
+    asked: Record,
+) -> io::Result<bool>
     requires { (589824 ≤ length room.old) × (65536 ≤ length lent.old) }
 {
     let size = asked.size as usize;
     let count = asked.count as usize;
     if size > IMAGE {
-        return print::malformed(b"an image that is too large");
+        return print::malformed(output, "an image that is too large");
     }
     if count > LENT {
-        return print::malformed(b"a slip or a buffer that is too large");
+        return print::malformed(output, "a slip or a buffer that is too large");
     }
-    if !bring(&mut lent[0..count], asked) {
-        return false;
+    if !bring(input, output, &mut lent[0..count], asked)? {
+        return Ok(false);
     }
     let from = copied(room, size, asked);
     let to = from + size;
-    call::play(&mut room[from..to], &mut lent[0..count], asked)
+    call::play(output, &mut room[from..to], &mut lent[0..count], asked)
 }
 
 // Where the image begins that the call is made on.
@@ -102,31 +128,47 @@ fn copied(room: &mut [u8], size: usize, asked: Record) -> usize
     if asked.flags / 4 % 2 == 0 {
         return 0;
     }
-    let mut i: usize = 0;
-    while i < size {
+    for i in 0..size {
         room[IMAGE + i] = room[i];
-        i += 1;
     }
     IMAGE
 }
 
 // The bytes of a record. Answers whether they are all there.
-fn bring(bytes: &mut [u8], asked: Record) -> bool {
+fn bring<R: Read, W: Write>(
+    input: &mut R,
+    output: &mut W,
+    bytes: &mut [u8],
+    asked: Record,
+) -> io::Result<bool> {
     if asked.flags / 8 % 2 == 1 {
         fill(bytes, asked.byte);
-        return true;
+        return Ok(true);
     }
-    let read = io::read_full(STDIN_FILENO, bytes);
+    let read = read_full(input, bytes)?;
     if read < bytes.len() {
-        return print::malformed(b"bytes that are cut short");
+        return print::malformed(output, "bytes that are cut short");
     }
-    true
+    Ok(true)
 }
 
 fn fill(bytes: &mut [u8], b: u8) {
-    let mut i: usize = 0;
-    while i < bytes.len() {
-        bytes[i] = b;
-        i += 1;
+    for x in bytes.iter_mut() {
+        *x = b;
     }
+}
+
+// Reads until `bytes` is full or the input ends, and answers how many bytes it put at its start.
+fn read_full<R: Read>(input: &mut R, bytes: &mut [u8]) -> io::Result<usize>
+    ensures { IfOk result (λ n. n ≤ length bytes.new) }
+{
+    let mut done = 0;
+    while done < bytes.len() {
+        let n = input.read(&mut bytes[done..])?;
+        if n == 0 {
+            break;
+        }
+        done += n;
+    }
+    Ok(done)
 }
