@@ -330,9 +330,9 @@ fn read_items(image: &[u8], buffer: &mut [u8], g: Geometry, start: Address, end:
                     MaybeItem::TooSmall(size) => {
                         return Met::TooSmall(from, size);
                     }
-                    MaybeItem::Erased(_) => {
-                        return logic_bug();
-                    }
+                    // The Rust answers LogicBug where the scan that stops at live headers stopped at a popped one. It never does, and
+                    // that is proved.
+                    MaybeItem::Erased(_) => unreachable!(),
                     MaybeItem::Corrupted(_) => {
                         from = header.next_item_address(g, address);
                     }
@@ -340,15 +340,6 @@ fn read_items(image: &[u8], buffer: &mut [u8], g: Geometry, start: Address, end:
             }
         }
     }
-}
-
-// The Rust answers LogicBug where the scan that stops at live headers stopped at a popped one. It never does, and that is proved: no call
-// that could be reached meets this `requires`.
-fn logic_bug() -> Met
-    requires { ⊥ }
-    ensures { ⊥ }
-{
-    Met::Passed
 }
 
 // ---- leaving a page

@@ -37,8 +37,8 @@ returns-in-TooSmall c =
       within = (l.invariant.order, l.invariant.inside.order);
     }
 
-pub logic_bug-requires : goal.logic_bug-requires
-logic_bug-requires c =
+pub unreachable-requires : goal.unreachable-requires
+unreachable-requires c =
     let a = c.args in
     let l = c.loop-item in
     let r = reaches_of _ _ _ _ _ c.next_live-next.ensures _ c.in-Live.is in
