@@ -5,6 +5,8 @@ with a line for each part."""
 import re
 import textwrap
 
+ALLOWED = 160  # the widest line that `tools/bind --check` allows
+WIDEST = 140  # a longer line is broken into pieces of this width
 SHORTEST = 24  # a first piece shorter than this is no help to the reader
 # what a break costs before an operator: the looser it binds, the less; an argument costs more, and a deeper parenthesis most
 OPERATORS = {'→': 0, '×': 5, '⊎': 5, '∙': 4, '≡': 8, '≤': 9, '<': 9, '∷': 10, '++': 10, '+': 11}
