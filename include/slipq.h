@@ -1,7 +1,7 @@
 /*
  * slipq: a queue of slips on NOR flash, over an image in memory.
  *
- * The functions of libdock.a, made by `rt staticlib dock`. Plain C89 but for
+ * The functions of libdock.a, which `rust/library` makes. Plain C89 but for
  * <stdint.h>; fit for C++. From the repository's root:
  *
  *     cc -Iinclude -o program program.c -Ltarget/staticlib -ldock

@@ -25,7 +25,7 @@ fn main() {
             println!("cargo::rustc-link-lib=static=dock");
         }
         _ => println!(
-            "cargo::error=there is no {}; make it by `rt staticlib dock` at the repository's root, or set SLIPQ_LIB_DIR to its folder",
+            "cargo::error=there is no {}; make it by `rust/library` at the repository's root, or set SLIPQ_LIB_DIR to its folder",
             library.display()
         ),
     }
