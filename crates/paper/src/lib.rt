@@ -1,8 +1,7 @@
 // The plain data that the definitions of specs/ and the code share. There is no function here.
-
-// What a caller gives, not checked yet: a range of addresses, a page size and a word size.
 #![tactic(auto)]
 
+// What a caller gives, not checked yet: a range of addresses, a page size and a word size.
 #[derive(Clone, Copy)]
 pub struct Shape {
     pub start: u32,
