@@ -1,10 +1,8 @@
 -- A pop copies nothing after the search, and stores nothing where that was cut or no item was found. Assumes nothing.
 use mathlib.Core.Path.{◌≡◌, refl}
 use mathlib.Core.Bool.{Bool, true, false}
-use mathlib.Core.List.{List, [], ◌∷◌}
+use mathlib.Core.List.{List, []}
 use Prim.Native.Nat.{ℕ}
-use denote.Enum.Declared.{tag_of}
-use types.Run.{OneOf, miss}
 use Rattle.paper.specs.declared.Geometry.{Geometry}
 use Rattle.paper.specs.Chip.{Plan, plan, bind}
 use Rattle.paper.specs.Slip.{encode}
@@ -15,11 +13,11 @@ use Rattle.chip.specs.Run.{Showed, WholeShown, under, unless_cut}
 use Rattle.chip.proofs.Quiet.{copy_count, acted_quiet, writes_quiet}
 use Rattle.chip.proofs.Binding.{showed_plan, showed_bind_cut, showed_bind_then}
 use Rattle.chip.proofs.Limiting.{showed_under}
+use Rattle.item.specs.declared.Item.{Item}
 use Rattle.search.specs.declared.Found.{Found}
 use Rattle.search.specs.declared.Found.TheVariants as found
 use Rattle.search.specs.declared.Searched.{Searched}
 use Rattle.search.specs.Meanings.{found_as}
-use Rattle.search.specs.contracts.Found.{the_type}
 use Rattle.peek.specs.Shows.{Pops}
 
 pub popped_quiet : (g : Geometry) (x : Outcome) → copy_count (popped g x) ≡ 0
@@ -29,12 +27,12 @@ popped_quiet g (short n) = refl
 popped_quiet g (this h) = writes_quiet g h.place (encode g 0 h.len)
 popped_quiet g spoilt = refl
 
--- the numbers of the other cases are all that a `let .. else` tells
-pub pops_nothing : (g : Geometry) (im : List ℕ) (f : Found) → OneOf (0 ∷ 1 ∷ 3 ∷ []) (tag_of the_type f) → popped g (found_as g im f) ≡ []
-pops_nothing g im found.Nothing k = refl
-pops_nothing g im (found.TooSmall n) k = refl
-pops_nothing g im (found.Present x) k = absurd (miss (0 ∷ 1 ∷ 3 ∷ []) 2 tt k)
-pops_nothing g im found.Corrupted k = refl
+-- where no item was found, none is popped
+pub pops_nothing : (g : Geometry) (im : List ℕ) (f : Found) → ((x : Item) → f ≡ found.Present x → ⊥) → popped g (found_as g im f) ≡ []
+pops_nothing g im found.Nothing n = refl
+pops_nothing g im (found.TooSmall k) n = refl
+pops_nothing g im (found.Present x) n = absurd (n x refl)
+pops_nothing g im found.Corrupted n = refl
 
 -- ---- the search, and then the pop of what it found
 

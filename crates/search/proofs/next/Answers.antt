@@ -1,22 +1,10 @@
 -- `search::next` meets its contract: one run, or two with a repair between them. Assumes nothing.
-use Rattle.std.proofs.Common.{◌≡◌, List, ℕ, refl, ap}
-use Rattle.paper.specs.declared.Geometry.{Geometry}
-use Rattle.paper.specs.Chip.{gives}
+use Rattle.std.proofs.Common.{ap}
 use Rattle.paper.specs.Search.{next_step}
-use Rattle.paper.specs.Search as plans
 use Rattle.chip.proofs.Repairing.{showed_repair_cut, showed_repair_gives, showed_repair_stops, showed_repair_again}
-use Rattle.search.specs.declared.NextAddress.{NextAddress}
-use Rattle.search.specs.declared.Ended.{Ended}
-use Rattle.search.specs.declared.Ended.TheVariants as ended
 use Rattle.search.specs.Meanings.{ended_as}
+use Rattle.search.proofs.OtherCases.{not_failed}
 use Rattle.search.proofs.next.Goals as goal
-
--- a run that has not failed gave an answer
-gave : (g : Geometry) (im : List ℕ) (e : Ended) → ((s : NextAddress) → e ≡ ended.Failed s → ⊥) → (x : plans.Ended) × (ended_as g im e ≡ gives x)
-gave g im (ended.Nothing s) n = (_, refl)
-gave g im (ended.TooSmall s k) n = (_, refl)
-gave g im (ended.Present s x) n = (_, refl)
-gave g im (ended.Failed s) n = absurd (n s refl)
 
 pub returns-then-spent : goal.returns-then-spent
 returns-then-spent c =
@@ -26,7 +14,7 @@ returns-then-spent c =
 pub returns-in_default : goal.returns-in_default
 returns-in_default c =
     let n = c.next_inner-stepped in
-    let e = gave c.args.g n.new.image n.result.ended c.in_default.not-Failed in
+    let e = not_failed c.args.g n.new.image n.result.ended c.in_default.not-Failed in
     record {
       shows = (rw e.1 (showed_repair_gives (next_step c.args.g _ _ _) _ n.ensures.shows _ e.1 c.if-spent.false));
       within = n.ensures.within;
