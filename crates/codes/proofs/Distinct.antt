@@ -9,19 +9,10 @@ use lib.Arith.{digits_mod, digits_div}
 use borrow.Author.Tests.{ne_eqb}
 use lib.Dec.{eqb}
 use lib.ListN.{get_or}
+use Rattle.std.specs.Prelude.{Option, Some, None, Result, Ok, Err}
 use Rattle.paper.specs.declared.Refusal.{Refusal}
 use Rattle.paper.specs.declared.Refusal.TheVariants as refusal
-use Rattle.paper.specs.declared.Pushed.{Pushed}
-use Rattle.paper.specs.declared.Pushed.TheVariants as pushed
-use Rattle.paper.specs.declared.Shown.{Shown}
-use Rattle.paper.specs.declared.Shown.TheVariants as shown
-use Rattle.paper.specs.declared.Fit.{Fit}
-use Rattle.paper.specs.declared.Fit.TheVariants as fit
-use Rattle.paper.specs.declared.Space.{Space}
-use Rattle.paper.specs.declared.Space.TheVariants as space
-use Rattle.paper.specs.declared.Erased.{Erased}
-use Rattle.paper.specs.declared.Erased.TheVariants as erased
-use Rattle.paper.specs.Refusals.{row, numbers, pushed_as, shown_as, fit_as, space_as, erased_as}
+use Rattle.paper.specs.Refusals.{row, numbers, pushed_as, shown_as, fit_as, space_as}
 use Rattle.laws.proofs.AnswerNumbers.{read}
 use Rattle.codes.specs.Codes.{code, row_code, code_of}
 use Rattle.codes.specs.Distinct.{Small, ToldApart, Distinct}
@@ -38,15 +29,15 @@ halves_code r v l m = rw (mod-eq_of_lt m, digits_mod v l, digits_div v l) refl
 -- ---- reading back
 
 -- what row 0 stands for by its value, what row 1 stands for, and the refusals
-abbrev back : {A : Type 0} → (List ℕ → A) → A → (Refusal → A) → ℕ → A
-back done none refuse c = read done none refuse (halves c)
+abbrev back : {A : Type 0} → (List ℕ → A) → A → ℕ → Result A Refusal
+back done none c = read done none (halves c)
 
-module _ {A : Type 0} (done : List ℕ → A) (none : A) (refuse : Refusal → A) where
-  back_row : (b : ℕ) (x : Refusal) → b < 2 ^ 32 + 1 → Small b (row x) → back done none refuse (row_code (row x)) ≡ refuse x
+module _ {A : Type 0} (done : List ℕ → A) (none : A) where
+  back_row : (b : ℕ) (x : Refusal) → b < 2 ^ 32 + 1 → Small b (row x) → back done none (row_code (row x)) ≡ Err x
   unfolding row
   back_row b refusal.ItemTooBig l s = refl
   back_row b refusal.FullStorage l s = refl
-  back_row b (refusal.BufferTooSmall n) l s = ap (read done none refuse) (halves_code 4 n (omega arith) (omega arith))
+  back_row b (refusal.BufferTooSmall n) l s = ap (read done none) (halves_code 4 n (omega arith) (omega arith))
   back_row b refusal.Corrupted l s = refl
   back_row b refusal.Cut l s = refl
   back_row b refusal.BadGeometry l s = refl
@@ -59,8 +50,8 @@ module _ {A : Type 0} (done : List ℕ → A) (none : A) (refuse : Refusal → A
   back_row b refusal.TooLarge l s = refl
   back_row b refusal.OutsideImage l s = refl
 
-  back_value : (n : ℕ) → n < 2 ^ 32 → back done none refuse (code 0 n) ≡ done (n ∷ [])
-  back_value n l = ap (read done none refuse) (halves_code 0 n (omega arith) l)
+  back_value : (n : ℕ) → n < 2 ^ 32 → back done none (code 0 n) ≡ Ok (done (n ∷ []))
+  back_value n l = ap (read done none) (halves_code 0 n (omega arith) l)
 
 -- ---- each call's answers
 
@@ -70,58 +61,49 @@ told P f g e x y s t q = sym (e x s) ∙ ap g q ∙ e y t
 
 pushed_told : ToldApart (2 ^ 32) pushed_as
 unfolding numbers
-pushed_told = told (λ r. Small (2 ^ 32) (numbers (pushed_as r))) (λ r. code_of (pushed_as r)) (back (λ v. pushed.Done) pushed.Done pushed.Refused) go
+pushed_told = told (λ r. Small (2 ^ 32) (numbers (pushed_as r))) (λ r. code_of (pushed_as r)) (back (λ v. tt) tt) go
   where
-    go : (r : Pushed) → Small (2 ^ 32) (numbers (pushed_as r)) → back (λ v. pushed.Done) pushed.Done pushed.Refused (code_of (pushed_as r)) ≡ r
-    go pushed.Done s = refl
-    go (pushed.Refused x) s = back_row (λ v. pushed.Done) pushed.Done pushed.Refused (2 ^ 32) x (omega arith) s
+    go : (r : Result (Unit {0}) Refusal) → Small (2 ^ 32) (numbers (pushed_as r)) → back (λ v. tt) tt (code_of (pushed_as r)) ≡ r
+    go (Ok u) s = refl
+    go (Err x) s = back_row (λ v. tt) tt (2 ^ 32) x (omega arith) s
 
 shown_told : ToldApart (2 ^ 32) shown_as
 unfolding numbers
-shown_told = told (λ r. Small (2 ^ 32) (numbers (shown_as r))) (λ r. code_of (shown_as r)) (back (λ v. shown.Slip (get_or v 0 0)) shown.Empty shown.Refused) go
+shown_told = told (λ r. Small (2 ^ 32) (numbers (shown_as r))) (λ r. code_of (shown_as r)) (back (λ v. Some (get_or v 0 0)) None) go
   where
-    go : (r : Shown) → Small (2 ^ 32) (numbers (shown_as r)) → back (λ v. shown.Slip (get_or v 0 0)) shown.Empty shown.Refused (code_of (shown_as r)) ≡ r
-    go (shown.Slip n) s = back_value (λ v. shown.Slip (get_or v 0 0)) shown.Empty shown.Refused n s
-    go shown.Empty s = refl
-    go (shown.Refused x) s = back_row (λ v. shown.Slip (get_or v 0 0)) shown.Empty shown.Refused (2 ^ 32) x (omega arith) s
+    go : (r : Result (Option ℕ) Refusal) → Small (2 ^ 32) (numbers (shown_as r)) → back (λ v. Some (get_or v 0 0)) None (code_of (shown_as r)) ≡ r
+    go (Ok (Some n)) s = back_value (λ v. Some (get_or v 0 0)) None n s
+    go (Ok None) s = refl
+    go (Err x) s = back_row (λ v. Some (get_or v 0 0)) None (2 ^ 32) x (omega arith) s
 
 -- a number, or none
-abbrev longest : List ℕ → Fit
-longest v = cond (eqb (get_or v 0 0) 4294967295) fit.Nothing (fit.Longest (get_or v 0 0))
+abbrev longest : List ℕ → Option ℕ
+longest v = cond (eqb (get_or v 0 0) 4294967295) None (Some (get_or v 0 0))
 
 fit_told : ToldApart (2 ^ 32 - 1) fit_as
 unfolding numbers code
-fit_told = told (λ r. Small (2 ^ 32 - 1) (numbers (fit_as r))) (λ r. code_of (fit_as r)) (back longest fit.Nothing fit.Refused) go
+fit_told = told (λ r. Small (2 ^ 32 - 1) (numbers (fit_as r))) (λ r. code_of (fit_as r)) (back longest None) go
   where
-    go : (r : Fit) → Small (2 ^ 32 - 1) (numbers (fit_as r)) → back longest fit.Nothing fit.Refused (code_of (fit_as r)) ≡ r
-    go (fit.Longest n) s =
+    go : (r : Result (Option ℕ) Refusal) → Small (2 ^ 32 - 1) (numbers (fit_as r)) → back longest None (code_of (fit_as r)) ≡ r
+    go (Ok (Some n)) s =
         let other : n ≡ 4294967295 → ⊥ = λ e. omega arith in
-        back_value longest fit.Nothing fit.Refused n (omega arith) ∙ (rw (ne_eqb n 4294967295 other) refl)
-    go fit.Nothing s = refl
-    go (fit.Refused x) s = back_row longest fit.Nothing fit.Refused (2 ^ 32 - 1) x (omega arith) s
+        back_value longest None n (omega arith) ∙ (rw (ne_eqb n 4294967295 other) refl)
+    go (Ok None) s = refl
+    go (Err x) s = back_row longest None (2 ^ 32 - 1) x (omega arith) s
 
 space_told : ToldApart (2 ^ 32) space_as
 unfolding numbers
-space_told = told (λ r. Small (2 ^ 32) (numbers (space_as r))) (λ r. code_of (space_as r))
-    (back (λ v. space.Left (get_or v 0 0)) (space.Left 0) space.Refused) go
+space_told = told (λ r. Small (2 ^ 32) (numbers (space_as r))) (λ r. code_of (space_as r)) (back (λ v. get_or v 0 0) 0) go
   where
-    go : (r : Space) → Small (2 ^ 32) (numbers (space_as r)) → back (λ v. space.Left (get_or v 0 0)) (space.Left 0) space.Refused (code_of (space_as r)) ≡ r
-    go (space.Left n) s = back_value (λ v. space.Left (get_or v 0 0)) (space.Left 0) space.Refused n s
-    go (space.Refused x) s = back_row (λ v. space.Left (get_or v 0 0)) (space.Left 0) space.Refused (2 ^ 32) x (omega arith) s
-
-erased_told : ToldApart (2 ^ 32) erased_as
-unfolding numbers
-erased_told = told (λ r. Small (2 ^ 32) (numbers (erased_as r))) (λ r. code_of (erased_as r)) (back (λ v. erased.Done) erased.Done erased.Refused) go
-  where
-    go : (r : Erased) → Small (2 ^ 32) (numbers (erased_as r)) → back (λ v. erased.Done) erased.Done erased.Refused (code_of (erased_as r)) ≡ r
-    go erased.Done s = refl
-    go (erased.Refused x) s = back_row (λ v. erased.Done) erased.Done erased.Refused (2 ^ 32) x (omega arith) s
+    go : (r : Result ℕ Refusal) → Small (2 ^ 32) (numbers (space_as r)) → back (λ v. get_or v 0 0) 0 (code_of (space_as r)) ≡ r
+    go (Ok n) s = back_value (λ v. get_or v 0 0) 0 n s
+    go (Err x) s = back_row (λ v. get_or v 0 0) 0 (2 ^ 32) x (omega arith) s
 
 -- ---- the check of a shape
 
 refused_told : (x y : Refusal) → Small (2 ^ 32) (row x) → Small (2 ^ 32) (row y) → row_code (row x) ≡ row_code (row y) → x ≡ y
-refused_told = told (λ x. Small (2 ^ 32) (row x)) (λ x. row_code (row x)) (back (λ v. refusal.Cut) refusal.Cut (λ x. x))
-    (λ x s. back_row (λ v. refusal.Cut) refusal.Cut (λ w. w) (2 ^ 32) x (omega arith) s)
+unfolding numbers
+refused_told x y s t q = let e = pushed_told (Err x) (Err y) s t q in cc
 
 -- a refusal's row is 2 to 17
 pub row_within : (x : Refusal) → (1 < row_code (row x) % 4294967296) × (row_code (row x) % 4294967296 < 18)
@@ -152,7 +134,7 @@ distinct = record {
   shown = shown_told;
   fit = fit_told;
   space = space_told;
-  erased = erased_told;
+  erased = pushed_told;
   refused = refused_told;
   not_accepted = not_accepted;
 }

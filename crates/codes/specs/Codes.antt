@@ -1,7 +1,7 @@
 -- The answers of the calls, each as one number: document 01's row in its low 32 bits, the value that comes with it above. Assumes nothing.
-use Rattle.std.specs.Prelude.{List, [], ◌∷◌, ℕ, ◌+◌, ◌*◌, ◌%◌, ◌^◌}
-use Rattle.paper.specs.declared.Checked.{Checked}
-use Rattle.paper.specs.declared.Checked.TheVariants.{Accepted, Refused}
+use Rattle.std.specs.Prelude.{List, [], ◌∷◌, ℕ, ◌+◌, ◌*◌, ◌%◌, ◌^◌, Result, Ok, Err}
+use Rattle.paper.specs.declared.Geometry.{Geometry}
+use Rattle.paper.specs.declared.Refusal.{Refusal}
 use Rattle.paper.specs.Refusals.{Answer, done, shown, number, none, empty, refused, row}
 
 -- a row and a value; lengths and sizes are far below 2^32
@@ -23,6 +23,6 @@ code_of none = code 0 0xffff_ffff
 code_of empty = 1
 code_of (refused r) = row_code (row r)
 
-abbrev pub code_of_check : Checked → ℕ
-code_of_check (Accepted g) = 0
-code_of_check (Refused r) = row_code (row r)
+abbrev pub code_of_check : Result Geometry Refusal → ℕ
+code_of_check (Ok g) = 0
+code_of_check (Err r) = row_code (row r)

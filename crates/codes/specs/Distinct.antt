@@ -1,7 +1,6 @@
 -- Codes tell the answers of a call apart, as long as the values that come with them are small. Assumes nothing.
-use Rattle.std.specs.Prelude.{◌≡◌, List, [], ◌∷◌, ℕ, ◌<◌, ◌^◌, ◌-◌}
+use Rattle.std.specs.Prelude.{◌≡◌, List, [], ◌∷◌, ℕ, ◌<◌, ◌^◌, ◌-◌, Err}
 use Rattle.paper.specs.declared.Refusal.{Refusal}
-use Rattle.paper.specs.declared.Checked.TheVariants.{Refused}
 use Rattle.paper.specs.Refusals.{Answer, row, numbers, pushed_as, shown_as, fit_as, space_as, erased_as}
 use Rattle.codes.specs.Codes.{code_of, code_of_check}
 
@@ -24,5 +23,5 @@ pub record Distinct : Type 0 where
   pub space : ToldApart (2 ^ 32) space_as
   pub erased : ToldApart (2 ^ 32) erased_as
   -- An accepted shape is 0, whatever its geometry is, and no refused one is.
-  pub refused : (x y : Refusal) → Small (2 ^ 32) (row x) → Small (2 ^ 32) (row y) → code_of_check (Refused x) ≡ code_of_check (Refused y) → x ≡ y
-  pub not_accepted : (x : Refusal) → code_of_check (Refused x) ≡ 0 → ⊥
+  pub refused : (x y : Refusal) → Small (2 ^ 32) (row x) → Small (2 ^ 32) (row y) → code_of_check (Err x) ≡ code_of_check (Err y) → x ≡ y
+  pub not_accepted : (x : Refusal) → code_of_check (Err x) ≡ 0 → ⊥

@@ -6,7 +6,7 @@ ghost use Rattle.std.specs.Prelude.{◌≡◌, ◌<◌};
 ghost use Rattle.paper.specs.Refusals.{row, pushed_as, shown_as, fit_as, space_as, erased_as};
 ghost use Rattle.codes.specs.Codes.{code, row_code, code_of};
 
-use paper::{Erased, Fit, Pushed, Refusal, Shown, Space};
+use paper::Refusal;
 
 // Lengths and sizes are far below 2^32; the remainder keeps the sum within 64 bits for any number.
 #[tactic(auto, unfolding(crate::specs::Codes::code))]
@@ -40,50 +40,48 @@ pub fn refusal_code(refusal: Refusal) -> u64
     }
 }
 
-pub fn pushed_code(answer: Pushed) -> u64
+pub fn pushed_code(answer: Result<(), Refusal>) -> u64
     ensures { result ≡ code_of (pushed_as answer) }
 {
     match answer {
-        Pushed::Done => 0,
-        Pushed::Refused(refusal) => refusal_code(refusal),
+        Ok(()) => 0,
+        Err(refusal) => refusal_code(refusal),
     }
 }
 
-pub fn shown_code(answer: Shown) -> u64
+pub fn shown_code(answer: Result<Option<usize>, Refusal>) -> u64
     ensures { result ≡ code_of (shown_as answer) }
 {
     match answer {
-        Shown::Slip(n) => coded(0, n),
-        Shown::Empty => 1,
-        Shown::Refused(refusal) => refusal_code(refusal),
+        Ok(Some(n)) => coded(0, n),
+        Ok(None) => 1,
+        Err(refusal) => refusal_code(refusal),
     }
 }
 
-pub fn fit_code(answer: Fit) -> u64
+pub fn fit_code(answer: Result<Option<usize>, Refusal>) -> u64
     ensures { result ≡ code_of (fit_as answer) }
 {
     match answer {
-        Fit::Longest(n) => coded(0, n),
-        // No page is that large, so it is no length.
-        Fit::Nothing => coded(0, 0xffff_ffff),
-        Fit::Refused(refusal) => refusal_code(refusal),
+        Ok(Some(n)) => coded(0, n),
+        // No page is that large, so it is no length. This number is all that tells the function from shown_code, and C has both.
+        Ok(None) => coded(0, 0xffff_ffff),
+        Err(refusal) => refusal_code(refusal),
     }
 }
 
-pub fn space_code(answer: Space) -> u64
+pub fn space_code(answer: Result<usize, Refusal>) -> u64
     ensures { result ≡ code_of (space_as answer) }
 {
     match answer {
-        Space::Left(n) => coded(0, n),
-        Space::Refused(refusal) => refusal_code(refusal),
+        Ok(n) => coded(0, n),
+        Err(refusal) => refusal_code(refusal),
     }
 }
 
-pub fn erased_code(answer: Erased) -> u64
+// The codes of erase_all are those of a push. Each call has a function here by which the C face and the replay turn its answer.
+pub fn erased_code(answer: Result<(), Refusal>) -> u64
     ensures { result ≡ code_of (erased_as answer) }
 {
-    match answer {
-        Erased::Done => 0,
-        Erased::Refused(refusal) => refusal_code(refusal),
-    }
+    pushed_code(answer)
 }

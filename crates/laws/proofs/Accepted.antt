@@ -7,7 +7,7 @@ use native.Mathlib.Nat.{dvd_trans, dvd-sub, dvd_of_mod-eq-zero, div-mul_cancel, 
 use native.Mathlib.Omega.{arith}
 use borrow.Author.Tests.{ltb-false, eqb-true, eqb-false, not-false}
 use lib.Dec.{eqb, ltb}
-use Rattle.paper.specs.declared.Checked.TheVariants.{Accepted, Refused}
+use Rattle.std.specs.Prelude.{Ok, Err}
 use Rattle.paper.specs.declared.Geometry.{Geometry}
 use Rattle.paper.specs.declared.Shape.{Shape}
 use Rattle.paper.specs.Chip.{round_up, header_size, range_end}
@@ -38,12 +38,12 @@ abbrev Kept : List Rule → Type 0
 Kept [] = Unit {0}
 Kept (r ∷ rs) = (r.broken ≡ false) × Kept rs
 
-kept : (s : Shape) (rs : List Rule) (g : Geometry) → judge s rs ≡ Accepted g → (geometry_of s ≡ g) × Kept rs
+kept : (s : Shape) (rs : List Rule) (g : Geometry) → judge s rs ≡ Ok g → (geometry_of s ≡ g) × Kept rs
 unfolding judge
 kept s [] g e = (cc, tt)
 kept s (r ∷ rs) g e = by r.broken refl e (kept s rs g)
   where
-    by : (t : Bool) → r.broken ≡ t → cond t (Refused r.refusal) (judge s rs) ≡ Accepted g → (judge s rs ≡ Accepted g → (geometry_of s ≡ g) × Kept rs)
+    by : (t : Bool) → r.broken ≡ t → cond t (Err r.refusal) (judge s rs) ≡ Ok g → (judge s rs ≡ Ok g → (geometry_of s ≡ g) × Kept rs)
         → (geometry_of s ≡ g) × ((r.broken ≡ false) × Kept rs)
     by true b e f = absurd (let z : ◌≡◌ {A = ℕ} 0 1 = cc in omega arith)
     by false b e f = let k = f e in (k.0, (b, k.1))
@@ -105,7 +105,7 @@ module _ (n : ℕ) (s : Shape) where
         ends_at = omega arith;
       }
 
-  module _ (g : Geometry) (e : check n s ≡ Accepted g) where
+  module _ (g : Geometry) (e : check n s ≡ Ok g) where
     pub accepted_is : geometry_of s ≡ g
     unfolding check
     accepted_is = (kept s (rules n s) g e).0

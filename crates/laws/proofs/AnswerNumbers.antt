@@ -3,21 +3,10 @@ use mathlib.Core.Path.{◌≡◌, refl, sym, ap, ◌∙◌}
 use mathlib.Core.List.{List, [], ◌∷◌}
 use Prim.Native.Nat.{ℕ, zero, suc}
 use lib.ListN.{get_or}
+use Rattle.std.specs.Prelude.{Option, Some, None, Result, Ok, Err}
 use Rattle.paper.specs.declared.Refusal.{Refusal}
 use Rattle.paper.specs.declared.Refusal.TheVariants as refusal
 use Rattle.paper.specs.declared.Geometry.{Geometry}
-use Rattle.paper.specs.declared.Checked.{Checked}
-use Rattle.paper.specs.declared.Checked.TheVariants.{Accepted, Refused}
-use Rattle.paper.specs.declared.Pushed.{Pushed}
-use Rattle.paper.specs.declared.Pushed.TheVariants as pushed
-use Rattle.paper.specs.declared.Shown.{Shown}
-use Rattle.paper.specs.declared.Shown.TheVariants as shown
-use Rattle.paper.specs.declared.Fit.{Fit}
-use Rattle.paper.specs.declared.Fit.TheVariants as fit
-use Rattle.paper.specs.declared.Space.{Space}
-use Rattle.paper.specs.declared.Space.TheVariants as space
-use Rattle.paper.specs.declared.Erased.{Erased}
-use Rattle.paper.specs.declared.Erased.TheVariants as erased
 use Rattle.paper.specs.Refusals.{row, numbers, checked_numbers, pushed_as, shown_as, fit_as, space_as, erased_as}
 
 -- what can be read back is told apart
@@ -37,77 +26,72 @@ refusals_from_two n =
     ∷ refusal.PagesTooSmall ∷ refusal.WordSizeTooLarge ∷ refusal.BadWord ∷ refusal.TooLarge ∷ refusal.OutsideImage ∷ []
 
 -- what row 0 stands for by its values, what row 1 stands for, and the refusals
-abbrev pub read : {A : Type 0} → (List ℕ → A) → A → (Refusal → A) → List ℕ → A
-read done none refuse [] = none
-read done none refuse (zero ∷ values) = done values
-read done none refuse (suc zero ∷ values) = none
-read done none refuse (suc (suc k) ∷ values) = refuse (get_or (refusals_from_two (get_or values 0 0)) k refusal.Cut)
+abbrev pub read : {A : Type 0} → (List ℕ → A) → A → List ℕ → Result A Refusal
+read done none [] = Ok none
+read done none (zero ∷ values) = Ok (done values)
+read done none (suc zero ∷ values) = Ok none
+read done none (suc (suc k) ∷ values) = Err (get_or (refusals_from_two (get_or values 0 0)) k refusal.Cut)
 
-pub read_row : {A : Type 0} (done : List ℕ → A) (none : A) (refuse : Refusal → A) (x : Refusal) → read done none refuse (row x) ≡ refuse x
+pub read_row : {A : Type 0} (done : List ℕ → A) (none : A) (x : Refusal) → read done none (row x) ≡ Err x
 unfolding row
-read_row done none refuse refusal.ItemTooBig = refl
-read_row done none refuse refusal.FullStorage = refl
-read_row done none refuse (refusal.BufferTooSmall n) = refl
-read_row done none refuse refusal.Corrupted = refl
-read_row done none refuse refusal.Cut = refl
-read_row done none refuse refusal.BadGeometry = refl
-read_row done none refuse refusal.StartRangeNotAtPageBoundary = refl
-read_row done none refuse refusal.EndRangeNotAtPageBoundary = refl
-read_row done none refuse refusal.RangeTooSmall = refl
-read_row done none refuse refusal.PagesTooSmall = refl
-read_row done none refuse refusal.WordSizeTooLarge = refl
-read_row done none refuse refusal.BadWord = refl
-read_row done none refuse refusal.TooLarge = refl
-read_row done none refuse refusal.OutsideImage = refl
+read_row done none refusal.ItemTooBig = refl
+read_row done none refusal.FullStorage = refl
+read_row done none (refusal.BufferTooSmall n) = refl
+read_row done none refusal.Corrupted = refl
+read_row done none refusal.Cut = refl
+read_row done none refusal.BadGeometry = refl
+read_row done none refusal.StartRangeNotAtPageBoundary = refl
+read_row done none refusal.EndRangeNotAtPageBoundary = refl
+read_row done none refusal.RangeTooSmall = refl
+read_row done none refusal.PagesTooSmall = refl
+read_row done none refusal.WordSizeTooLarge = refl
+read_row done none refusal.BadWord = refl
+read_row done none refusal.TooLarge = refl
+read_row done none refusal.OutsideImage = refl
 
 -- ---- each call's answers
 
 pub pushed_told : Injective (λ r. numbers (pushed_as r))
 unfolding numbers
-pushed_told = told (λ r. numbers (pushed_as r)) (read (λ v. pushed.Done) pushed.Done pushed.Refused) go
+pushed_told = told (λ r. numbers (pushed_as r)) (read (λ v. tt) tt) go
   where
-    go : (r : Pushed) → read (λ v. pushed.Done) pushed.Done pushed.Refused (numbers (pushed_as r)) ≡ r
-    go pushed.Done = refl
-    go (pushed.Refused x) = read_row (λ v. pushed.Done) pushed.Done pushed.Refused x
+    go : (r : Result (Unit {0}) Refusal) → read (λ v. tt) tt (numbers (pushed_as r)) ≡ r
+    go (Ok u) = refl
+    go (Err x) = read_row (λ v. tt) tt x
+
+pub erased_told : Injective (λ r. numbers (erased_as r))
+erased_told = pushed_told
 
 pub shown_told : Injective (λ r. numbers (shown_as r))
 unfolding numbers
-shown_told = told (λ r. numbers (shown_as r)) (read (λ v. shown.Slip (get_or v 0 0)) shown.Empty shown.Refused) go
+shown_told = told (λ r. numbers (shown_as r)) (read (λ v. Some (get_or v 0 0)) None) go
   where
-    go : (r : Shown) → read (λ v. shown.Slip (get_or v 0 0)) shown.Empty shown.Refused (numbers (shown_as r)) ≡ r
-    go (shown.Slip n) = refl
-    go shown.Empty = refl
-    go (shown.Refused x) = read_row (λ v. shown.Slip (get_or v 0 0)) shown.Empty shown.Refused x
+    go : (r : Result (Option ℕ) Refusal) → read (λ v. Some (get_or v 0 0)) None (numbers (shown_as r)) ≡ r
+    go (Ok (Some n)) = refl
+    go (Ok None) = refl
+    go (Err x) = read_row (λ v. Some (get_or v 0 0)) None x
 
 -- a number, or none
-abbrev longest : List ℕ → Fit
-longest [] = fit.Nothing
-longest (n ∷ v) = fit.Longest n
+abbrev longest : List ℕ → Option ℕ
+longest [] = None
+longest (n ∷ v) = Some n
 
 pub fit_told : Injective (λ r. numbers (fit_as r))
 unfolding numbers
-fit_told = told (λ r. numbers (fit_as r)) (read longest fit.Nothing fit.Refused) go
+fit_told = told (λ r. numbers (fit_as r)) (read longest None) go
   where
-    go : (r : Fit) → read longest fit.Nothing fit.Refused (numbers (fit_as r)) ≡ r
-    go (fit.Longest n) = refl
-    go fit.Nothing = refl
-    go (fit.Refused x) = read_row longest fit.Nothing fit.Refused x
+    go : (r : Result (Option ℕ) Refusal) → read longest None (numbers (fit_as r)) ≡ r
+    go (Ok (Some n)) = refl
+    go (Ok None) = refl
+    go (Err x) = read_row longest None x
 
 pub space_told : Injective (λ r. numbers (space_as r))
 unfolding numbers
-space_told = told (λ r. numbers (space_as r)) (read (λ v. space.Left (get_or v 0 0)) (space.Left 0) space.Refused) go
+space_told = told (λ r. numbers (space_as r)) (read (λ v. get_or v 0 0) 0) go
   where
-    go : (r : Space) → read (λ v. space.Left (get_or v 0 0)) (space.Left 0) space.Refused (numbers (space_as r)) ≡ r
-    go (space.Left n) = refl
-    go (space.Refused x) = read_row (λ v. space.Left (get_or v 0 0)) (space.Left 0) space.Refused x
-
-pub erased_told : Injective (λ r. numbers (erased_as r))
-unfolding numbers
-erased_told = told (λ r. numbers (erased_as r)) (read (λ v. erased.Done) erased.Done erased.Refused) go
-  where
-    go : (r : Erased) → read (λ v. erased.Done) erased.Done erased.Refused (numbers (erased_as r)) ≡ r
-    go erased.Done = refl
-    go (erased.Refused x) = read_row (λ v. erased.Done) erased.Done erased.Refused x
+    go : (r : Result ℕ Refusal) → read (λ v. get_or v 0 0) 0 (numbers (space_as r)) ≡ r
+    go (Ok n) = refl
+    go (Err x) = read_row (λ v. get_or v 0 0) 0 x
 
 -- ---- the check of a shape
 
@@ -116,8 +100,8 @@ geometry v = record { start = get_or v 0 0; page = get_or v 1 0; word = get_or v
 
 pub checked_told : Injective checked_numbers
 unfolding checked_numbers
-checked_told = told checked_numbers (read (λ v. Accepted (geometry v)) (Refused refusal.Cut) Refused) go
+checked_told = told checked_numbers (read geometry (geometry [])) go
   where
-    go : (r : Checked) → read (λ v. Accepted (geometry v)) (Refused refusal.Cut) Refused (checked_numbers r) ≡ r
-    go (Accepted g) = refl
-    go (Refused x) = read_row (λ v. Accepted (geometry v)) (Refused refusal.Cut) Refused x
+    go : (r : Result Geometry Refusal) → read geometry (geometry []) (checked_numbers r) ≡ r
+    go (Ok g) = refl
+    go (Err x) = read_row geometry (geometry []) x

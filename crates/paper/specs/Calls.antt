@@ -1,10 +1,11 @@
 -- The calls: erase_all, the limited form, the check before the call, and any call as a plan. Assumes nothing.
-use Rattle.std.specs.Prelude.{Bool, cond, List, [], ◌∷◌, ◌++◌, ℕ, ltb, length}
+use Rattle.std.specs.Prelude.{Bool, cond, List, [], ◌∷◌, ◌++◌, ℕ, ltb, length, Result, Ok, Err}
 use Rattle.paper.specs.declared.Shape.{Shape}
+use Rattle.paper.specs.declared.Refusal.{Refusal}
 use Rattle.paper.specs.declared.Refusal.TheVariants as refusal
 use Rattle.paper.specs.Chip.{Geometry, Event, store_count, before, erase_page, Plan, plan}
 use Rattle.paper.specs.Pages.{all_pages}
-use Rattle.paper.specs.Refusals.{Checked, Accepted, Refused, check, Answer, done, refused}
+use Rattle.paper.specs.Refusals.{check, Answer, done, refused}
 use Rattle.paper.specs.Push.{push}
 use Rattle.paper.specs.Search.{peek, pop}
 use Rattle.paper.specs.Counts.{find_max_fit, space_left}
@@ -26,9 +27,9 @@ unfoldable pub limited : ℕ → Plan Answer → Plan Answer
 limited k p = cond (ltb k (store_count p.events)) (plan (before k p.events) (refused refusal.Cut)) p
 
 -- a call on any shape, over an image of n bytes: the shape's refusal, "then the call's own"
-abbrev pub planned : Checked → (Geometry → Plan Answer) → Plan Answer
-planned (Accepted g) own = own g
-planned (Refused r) own = plan [] (refused r)
+abbrev pub planned : Result Geometry Refusal → (Geometry → Plan Answer) → Plan Answer
+planned (Ok g) own = own g
+planned (Err r) own = plan [] (refused r)
 
 unfoldable pub call : ℕ → Shape → (Geometry → Plan Answer) → Plan Answer
 call n s own = planned (check n s) own

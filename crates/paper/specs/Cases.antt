@@ -1,10 +1,11 @@
 -- Document 01's cases marked P, in one table; proofs/Computed.antt proves them together, by computation. Assumes nothing.
-use Rattle.std.specs.Prelude.{Bool, true, false, ◌&&◌, List, [], ◌∷◌, ◌++◌, map, ℕ, eqb, length, replicate}
+use Rattle.std.specs.Prelude.{Bool, true, false, ◌&&◌, List, [], ◌∷◌, ◌++◌, map, ℕ, eqb, length, replicate, Result, Ok, Err}
+use Rattle.paper.specs.declared.Refusal.{Refusal}
 use Rattle.paper.specs.Checksum.{data_crc, length_crc, data_adjusted, length_adjusted}
 use Rattle.paper.specs.Chip.{Geometry, image_after, store_count, Plan}
 use Rattle.paper.specs.Slip.{bytes_of}
 use Rattle.paper.specs.Scan.{free_spot}
-use Rattle.paper.specs.Refusals.{Checked, Accepted, Refused, check, Answer, row, numbers}
+use Rattle.paper.specs.Refusals.{check, Answer, row, numbers}
 use Rattle.paper.specs.Push.{push}
 use Rattle.paper.specs.Search.{pop}
 use Rattle.paper.specs.Counts.{find_max_fit, space_left}
@@ -50,9 +51,9 @@ unfoldable pub tells : Plan Answer → List ℕ
 tells p = store_count p.events ∷ says p
 
 -- the check of one page of n bytes, with words of w, from 0 on
-unfoldable pub checks : Checked → List ℕ
-checks (Accepted g) = 0 ∷ []
-checks (Refused r) = row r
+unfoldable pub checks : Result Geometry Refusal → List ℕ
+checks (Ok g) = 0 ∷ []
+checks (Err r) = row r
 
 unfoldable pub one_page : ℕ → ℕ → List ℕ
 one_page n w = checks (check n (record { start = 0; end = n; page = n; word = w }))

@@ -1,5 +1,5 @@
 -- Demand 3: histories of calls, each whole or cut, from an erased range; what is assumed of them, and what is claimed. Assumes nothing.
-use Rattle.std.specs.Prelude.{◌≡◌, Bool, true, false, cond, ◌&&◌, ◌⊎◌, ℕ, ◌+◌, ◌≤◌, ◌<◌, leb, ltb, length, take, replicate}
+use Rattle.std.specs.Prelude.{◌≡◌, Bool, true, false, cond, ◌&&◌, ◌⊎◌, ℕ, ◌+◌, ◌≤◌, ◌<◌, leb, ltb, length, take, replicate, Ok}
 use mathlib.Core.List.{List, [], ◌∷◌, ◌++◌, tail, Memᴰ}
 use Rattle.paper.specs.declared.Shape.{Shape}
 use Rattle.paper.specs.declared.Refusal.TheVariants as refusal
@@ -8,7 +8,7 @@ use Rattle.paper.specs.Chip.{Geometry, header_size, page_start, page_bytes, part
 use Rattle.paper.specs.Slip.{encode}
 use Rattle.paper.specs.Scan.{Head, page_walk}
 use Rattle.paper.specs.Pages.{all_pages}
-use Rattle.paper.specs.Refusals.{Accepted, check, Answer, done, shown, number, none, empty, refused}
+use Rattle.paper.specs.Refusals.{check, Answer, done, shown, number, none, empty, refused}
 use Rattle.paper.specs.Push.{Full, Spot, full, at, too_big, spot_for}
 use Rattle.paper.specs.Calls.{Call, pushes, peeks, pops, fits, spaces, erases_all, plan_of}
 use Rattle.paper.specs.Waiting.{list_of, waiting}
@@ -164,7 +164,7 @@ Erased g im = (p : ℕ) → p < g.pages → page_bytes g im p ≡ replicate g.pa
 
 -- the images that a history comes to, "with one geometry throughout"
 pub data Reached (g : Geometry) : List ℕ → Ghost → Type 0 where
-  fresh : {im : List ℕ} (s : Shape) → check (length im) s ≡ Accepted g → Erased g im → Reached g im (record { begun = []; refused_before = [] })
+  fresh : {im : List ℕ} (s : Shape) → check (length im) s ≡ Ok g → Erased g im → Reached g im (record { begun = []; refused_before = [] })
   further : {im : List ℕ} {gh : Ghost} (c : Call) (w : Power) → Reached g im gh → Fair g im gh c w
       → Reached g (image_next g im c w) (ghost_next g im gh c w)
 
@@ -229,7 +229,7 @@ Behaves g im c (cut_after k) =
 -- demand 3: every image of a history has a list, which is empty at the start; every call behaves; every header that the scan accepts was
 -- begun by a push; and "with words of 8 and more none [no false header] can arise"
 pub record Demand3 : Type 0 where
-  pub starts : (g : Geometry) (im : List ℕ) (s : Shape) → check (length im) s ≡ Accepted g → Erased g im → waiting g im ≡ []
+  pub starts : (g : Geometry) (im : List ℕ) (s : Shape) → check (length im) s ≡ Ok g → Erased g im → waiting g im ≡ []
   pub lists : (g : Geometry) (im : List ℕ) (gh : Ghost) → Reached g im gh → list_of g im ≡ gives (waiting g im)
   pub behaves : (g : Geometry) (im : List ℕ) (gh : Ghost) → Reached g im gh → (c : Call) (w : Power) → Fair g im gh c w → Behaves g im c w
   pub begun : (g : Geometry) (im : List ℕ) (gh : Ghost) → Reached g im gh → Begun g im gh

@@ -1,21 +1,9 @@
 -- When the chip says no: the rows of the table, the check of a shape, and what calls answer. Assumes nothing.
-use Rattle.std.specs.Prelude.{Bool, cond, ◌||◌, not, List, [], ◌∷◌, ℕ, ◌+◌, ◌-◌, ◌*◌, ◌/◌, ◌%◌, eqb, ltb}
+use Rattle.std.specs.Prelude.{Bool, cond, ◌||◌, not, List, [], ◌∷◌, ℕ, ◌+◌, ◌-◌, ◌*◌, ◌/◌, ◌%◌, eqb, ltb, Option, Some, None, Result, Ok, Err}
 use Rattle.paper.specs.declared.Shape.{Shape}
 use Rattle.paper.specs.Chip.{Geometry, round_up}
 pub use Rattle.paper.specs.declared.Refusal.{Refusal}
 use Rattle.paper.specs.declared.Refusal.TheVariants as refusal
-pub use Rattle.paper.specs.declared.Checked.{Checked}
-pub use Rattle.paper.specs.declared.Checked.TheVariants.{Accepted, Refused}
-pub use Rattle.paper.specs.declared.Pushed.{Pushed}
-use Rattle.paper.specs.declared.Pushed.TheVariants as pushed
-pub use Rattle.paper.specs.declared.Shown.{Shown}
-use Rattle.paper.specs.declared.Shown.TheVariants as shows
-pub use Rattle.paper.specs.declared.Fit.{Fit}
-use Rattle.paper.specs.declared.Fit.TheVariants as fits
-pub use Rattle.paper.specs.declared.Space.{Space}
-use Rattle.paper.specs.declared.Space.TheVariants as spaces
-pub use Rattle.paper.specs.declared.Erased.{Erased}
-use Rattle.paper.specs.declared.Erased.TheVariants as erased
 
 -- ---- limits
 
@@ -64,11 +52,11 @@ unfoldable pub geometry_of : Shape → Geometry
 geometry_of s = record { start = s.start; page = s.page; word = s.word; pages = page_count s }
 
 -- the first rule that is broken refuses the shape
-unfoldable pub judge : Shape → List Rule → Checked
-judge s [] = Accepted (geometry_of s)
-judge s (r ∷ rs) = cond r.broken (Refused r.refusal) (judge s rs)
+unfoldable pub judge : Shape → List Rule → Result Geometry Refusal
+judge s [] = Ok (geometry_of s)
+judge s (r ∷ rs) = cond r.broken (Err r.refusal) (judge s rs)
 
-unfoldable pub check : ℕ → Shape → Checked
+unfoldable pub check : ℕ → Shape → Result Geometry Refusal
 check n s = judge s (rules n s)
 
 -- ---- answers
@@ -108,30 +96,35 @@ numbers empty = 1 ∷ []
 numbers (refused r) = row r
 
 -- "For every answer that is an enum, a definition gives this paper's number and values for each case of the enum": the answer that each
--- case of a call's enum stands for; `numbers` has the rest
-abbrev pub pushed_as : Pushed → Answer
-pushed_as pushed.Done = done
-pushed_as (pushed.Refused r) = refused r
+-- case of what a call hands out stands for; `numbers` has the rest. An `Err` is a refusal.
 
-abbrev pub shown_as : Shown → Answer
-shown_as (shows.Slip n) = shown n
-shown_as shows.Empty = empty
-shown_as (shows.Refused r) = refused r
+-- push is done
+abbrev pub pushed_as : Result (Unit {0}) Refusal → Answer
+pushed_as (Ok u) = done
+pushed_as (Err r) = refused r
 
-abbrev pub fit_as : Fit → Answer
-fit_as (fits.Longest n) = number n
-fit_as fits.Nothing = none
-fit_as (fits.Refused r) = refused r
+-- peek and pop: a slip of this length stands at the buffer's front, or no item is present
+abbrev pub shown_as : Result (Option ℕ) Refusal → Answer
+shown_as (Ok (Some n)) = shown n
+shown_as (Ok None) = empty
+shown_as (Err r) = refused r
 
-abbrev pub space_as : Space → Answer
-space_as (spaces.Left n) = number n
-space_as (spaces.Refused r) = refused r
+-- find_max_fit: the longest length, or that there is none
+abbrev pub fit_as : Result (Option ℕ) Refusal → Answer
+fit_as (Ok (Some n)) = number n
+fit_as (Ok None) = none
+fit_as (Err r) = refused r
 
-abbrev pub erased_as : Erased → Answer
-erased_as erased.Done = done
-erased_as (erased.Refused r) = refused r
+-- space_left: the bytes
+abbrev pub space_as : Result ℕ Refusal → Answer
+space_as (Ok n) = number n
+space_as (Err r) = refused r
+
+-- erase_all is done, as a push is
+abbrev pub erased_as : Result (Unit {0}) Refusal → Answer
+erased_as = pushed_as
 
 -- the same for the check of a shape: with an accepted one come the numbers of its geometry
-unfoldable pub checked_numbers : Checked → List ℕ
-checked_numbers (Accepted g) = 0 ∷ g.start ∷ g.page ∷ g.word ∷ g.pages ∷ []
-checked_numbers (Refused r) = row r
+unfoldable pub checked_numbers : Result Geometry Refusal → List ℕ
+checked_numbers (Ok g) = 0 ∷ g.start ∷ g.page ∷ g.word ∷ g.pages ∷ []
+checked_numbers (Err r) = row r

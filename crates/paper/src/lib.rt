@@ -19,7 +19,7 @@ pub struct Geometry {
     pub pages: u32,
 }
 
-#[derive(Clone, Copy)]
+#[derive(Clone, Copy, PartialEq, Eq)]
 pub enum PageState {
     Open,
     PartialOpen,
@@ -28,7 +28,7 @@ pub enum PageState {
 }
 
 // The refusals of document 01, in the order of its rows.
-#[derive(Clone, Copy)]
+#[derive(Clone, Copy, PartialEq, Eq)]
 pub enum Refusal {
     ItemTooBig,
     FullStorage,
@@ -44,48 +44,4 @@ pub enum Refusal {
     BadWord,
     TooLarge,
     OutsideImage,
-}
-
-// What the check of a shape comes to.
-#[derive(Clone, Copy)]
-pub enum Checked {
-    Accepted(Geometry),
-    Refused(Refusal),
-}
-
-// What each call answers.
-#[derive(Clone, Copy)]
-pub enum Pushed {
-    Done,
-    Refused(Refusal),
-}
-
-// Peek and pop: a slip of this length stands at the buffer's front, or no item is present.
-#[derive(Clone, Copy)]
-pub enum Shown {
-    Slip(usize),
-    Empty,
-    Refused(Refusal),
-}
-
-// find_max_fit: the longest length, or that there is none.
-#[derive(Clone, Copy)]
-pub enum Fit {
-    Longest(usize),
-    Nothing,
-    Refused(Refusal),
-}
-
-// space_left
-#[derive(Clone, Copy)]
-pub enum Space {
-    Left(usize),
-    Refused(Refusal),
-}
-
-// erase_all
-#[derive(Clone, Copy)]
-pub enum Erased {
-    Done,
-    Refused(Refusal),
 }
