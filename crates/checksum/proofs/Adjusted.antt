@@ -4,8 +4,8 @@ use mathlib.Core.Bool.{Bool, true, false, cond, ◌||◌}
 use mathlib.Core.List.{List}
 use Prim.Native.Nat.{ℕ, ◌%◌, ◌^◌, ◌<◌}
 use native.Mathlib.Omega.{arith}
-use borrow.Author.Tests.{eqb-true, eqb-false}
 use lib.Dec.{eqb, lit<}
+use Rattle.std.proofs.lemmas.Bool.Decides.{nat_tests}
 use lib.Pow.{pow_pos}
 use Rattle.paper.specs.Poly.{◌⊕◌}
 use Rattle.paper.specs.Checksum.{length_poly, data_poly, length_adjusted, data_adjusted, crc_of, length_crc, data_crc}
@@ -15,11 +15,7 @@ use Rattle.checksum.proofs.Sums.{sum_mod, sum_lt}
 
 not_ones : (n : ℕ) → length_adjusted n ≡ 0xffff → ⊥
 unfolding length_adjusted
-not_ones n = by (eqb n 0xffff) refl
-  where
-    by : (t : Bool) → eqb n 0xffff ≡ t → cond t 0xfffe n ≡ 0xffff → ⊥
-    by true e = λ h. omega arith
-    by false e = eqb-false n 0xffff e
+not_ones n h = grind (arith, nat_tests)
 
 pub length_not_ones : (bytes : List ℕ) → length_crc bytes ≡ 0xffff → ⊥
 unfolding length_crc
@@ -30,14 +26,9 @@ flipped n e = sum_mod 8 n 1 ∙ ap (λ (x : ℕ). x ⊕ 1) e
 
 pub low_byte : (n : ℕ) → (data_adjusted n % 256 ≡ 0 → ⊥) × (data_adjusted n % 256 ≡ 0xff → ⊥)
 unfolding data_adjusted ◌⊕◌
-low_byte n = by (eqb n 0) (eqb (n % 256) 0) (eqb (n % 256) 0xff) refl refl
-  where
-    by : (t u v : Bool) → eqb (n % 256) 0 ≡ u → eqb (n % 256) 0xff ≡ v
-        → (cond t 1 (cond (u || v) (n ⊕ 1) n) % 256 ≡ 0 → ⊥) × (cond t 1 (cond (u || v) (n ⊕ 1) n) % 256 ≡ 0xff → ⊥)
-    by true u v e f = omega arith
-    by false true v e f = let k : (n ⊕ 1) % 256 ≡ 1 = flipped n (eqb-true (n % 256) 0 e) in omega arith
-    by false false true e f = let k : (n ⊕ 1) % 256 ≡ 0xfe = flipped n (eqb-true (n % 256) 0xff f) in omega arith
-    by false false false e f = (eqb-false (n % 256) 0 e, eqb-false (n % 256) 0xff f)
+low_byte n =
+    let flip : (n ⊕ 1) % 256 ≡ n % 256 ⊕ 1 = flipped n refl in
+    (λ h. grind (arith, nat_tests), λ h. grind (arith, nat_tests))
 
 pub data_low : (bytes : List ℕ) → (data_crc bytes % 256 ≡ 0 → ⊥) × (data_crc bytes % 256 ≡ 0xff → ⊥)
 unfolding data_crc

@@ -11,13 +11,16 @@ mod table;
 // it CRC-16F/4.2, but it has no constant term.
 const LENGTH_POLY: u16 = 0x1a2e;
 
+// Two sums with a loop of one line each, as in the Rust. One generic function would be no plainer: a trait for the register, with its width,
+// its divisor and the turn for a byte as members, to save that line.
+
 // A crc that never returns 0xFFFF: that is what erased flash shows.
 pub fn crc16(data: &[u8]) -> u16
     ensures { LengthCrc «data».now result }
 {
     let mut crc: u16 = 0xffff;
-    for i in 0..data.len() {
-        crc = shifted16(crc ^ (data[i] as u16));
+    for b in data {
+        crc = shifted16(crc ^ u16::from(*b));
     }
     crc ^= 0xffff;
     match crc {
@@ -27,6 +30,7 @@ pub fn crc16(data: &[u8]) -> u16
 }
 
 // A turn for a byte stands by itself, so that what a caller knows of it is one division, however it is computed.
+#[tactic(auto, using(crate::proofs::BitLoop::held_none, crate::proofs::BitLoop::held_all))]
 fn shifted16(crc: u16) -> u16
     ensures { Shifted 16 length_poly crc result }
 {
@@ -42,6 +46,7 @@ fn shifted16(crc: u16) -> u16
 }
 
 // The crc of a payload as a header holds it.
+#[tactic(auto, unfolding(paper::specs::Checksum::data_adjusted))]
 pub fn adapted_crc32(data: &[u8]) -> u32
     ensures { DataCrc «data».now result }
 {
@@ -70,8 +75,8 @@ pub fn crc32_with_initial(data: &[u8], initial: u32) -> u32
     ensures { Crc 32 data_poly initial «data».now result }
 {
     let mut crc = initial;
-    for i in 0..data.len() {
-        crc = shifted32(crc ^ (data[i] as u32));
+    for b in data {
+        crc = shifted32(crc ^ u32::from(*b));
     }
     !crc
 }
@@ -79,6 +84,7 @@ pub fn crc32_with_initial(data: &[u8], initial: u32) -> u32
 fn shifted32(crc: u32) -> u32
     ensures { Shifted 32 data_poly crc result }
 {
+    // the low byte fits: no `try_from`, whose error never comes
     let low = (crc % 256) as u8;
     (crc >> 8) ^ table::entry(low)
 }

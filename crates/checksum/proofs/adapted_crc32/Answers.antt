@@ -1,13 +1,9 @@
--- `checksum::adapted_crc32` meets its contract: it adjusts what `crc32` gives. Assumes nothing.
+-- What `checksum::adapted_crc32` ensures where it adjusts what `crc32` gives. Assumes nothing.
 use borrow.Author.Tests.{eq-eqb, ne_eqb}
 use Rattle.paper.specs.Poly.{◌⊕◌}
 use Rattle.paper.specs.Checksum.{data_adjusted}
 use Rattle.checksum.proofs.adapted_crc32.Goals as goal
 use Rattle.checksum.proofs.adapted_crc32.Goals.{then-crc-eq0-2-via-then-crc-eq0-2, then-crc-eq0-2-via-else-crc-eq0-2+then-crc-eq255}
-
-pub returns-then-crc-eq0 : goal.returns-then-crc-eq0
-unfolding data_adjusted
-returns-then-crc-eq0 c = record { plain = _; crc = c.crc32-crc.ensures; answer = simp (eq-eqb _ _ c.if-crc-eq0.true) }
 
 pub returns-then-crc-eq0-2 : goal.returns-then-crc-eq0-2
 unfolding data_adjusted ◌⊕◌
@@ -22,13 +18,4 @@ returns-then-crc-eq0-2 c =
             | then-crc-eq0-2-via-else-crc-eq0-2+then-crc-eq255 w ↦
                 simp (not_zero, ne_eqb _ _ w.if-crc-eq0-2.false, eq-eqb _ _ w.if-crc-eq255.true)
           ];
-    }
-
-pub returns : goal.returns
-unfolding data_adjusted
-returns c =
-    record {
-      plain = _;
-      crc = c.crc32-crc.ensures;
-      answer = simp (ne_eqb _ _ c.if-crc-eq0.false, ne_eqb _ _ c.if-crc-eq0-2.false, ne_eqb _ _ c.if-crc-eq255.false);
     }

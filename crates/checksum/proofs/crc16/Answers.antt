@@ -9,21 +9,22 @@ use Rattle.paper.specs.Checksum.{length_poly, length_adjusted}
 use Rattle.checksum.proofs.ByteLoop.{fed_none, fed_more, fed_ones}
 use Rattle.checksum.proofs.crc16.Goals as goal
 
-pub loop-i-init : goal.loop-i-init
-loop-i-init c = fed_none (omega arith)
+pub loop-b-init : goal.loop-b-init
+loop-b-init c = fed_none (omega arith)
 
-pub loop-i-preserved : goal.loop-i-preserved
-loop-i-preserved c =
-    fed_more 8 length_poly c.loop-i.invariant (omega arith) (omega (arith, c.type_inv.data c.loop-i.i)) c.shifted16-crc.ensures (omega arith)
+pub loop-b-preserved : goal.loop-b-preserved
+loop-b-preserved c =
+    let s = rw c.from.ensures at c.shifted16-crc.ensures in
+    fed_more 8 length_poly c.loop-b.invariant (omega arith) (omega (arith, c.type_inv.data c.loop-b.b-index)) s (omega arith)
 
 pub returns-in-65535 : goal.returns-in-65535
 unfolding length_adjusted
 returns-in-65535 c =
-    record { plain = _; crc = fed_ones 16 length_poly c.loop-i.invariant (omega arith); answer = simp (eq-eqb _ _ c.in-65535.is) }
+    record { plain = _; crc = fed_ones 16 length_poly c.loop-b.invariant (omega arith); answer = simp (eq-eqb _ _ c.in-65535.is) }
 
 pub returns-in_default : goal.returns-in_default
 unfolding length_adjusted
 returns-in_default c =
-    let plain : ℕ = bit_xor c.loop-i.crc 0xffff in
+    let plain : ℕ = bit_xor c.loop-b.crc 0xffff in
     let other : plain ≡ 0xffff → ⊥ = omega arith in
-    record { plain = plain; crc = fed_ones 16 length_poly c.loop-i.invariant (omega arith); answer = simp (ne_eqb plain 0xffff other) }
+    record { plain = plain; crc = fed_ones 16 length_poly c.loop-b.invariant (omega arith); answer = simp (ne_eqb plain 0xffff other) }

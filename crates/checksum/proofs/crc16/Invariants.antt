@@ -3,5 +3,5 @@ use Rattle.paper.specs.Checksum.{length_poly}
 use Rattle.checksum.proofs.ByteLoop.{Fed}
 use Rattle.checksum.proofs.crc16.Given as goal
 
-abbrev pub invariant-loop-i : goal.invariant-loop-i
-invariant-loop-i l = Fed 16 length_poly 0xffff l.data l.crc l.i
+abbrev pub invariant-loop-b : goal.invariant-loop-b
+invariant-loop-b l = Fed 16 length_poly 0xffff l.data l.crc l.b-index

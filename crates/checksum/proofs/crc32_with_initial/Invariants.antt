@@ -3,5 +3,5 @@ use Rattle.paper.specs.Checksum.{data_poly}
 use Rattle.checksum.proofs.ByteLoop.{Fed}
 use Rattle.checksum.proofs.crc32_with_initial.Given as goal
 
-abbrev pub invariant-loop-i : goal.invariant-loop-i
-invariant-loop-i l = Fed 32 data_poly l.initial.crc l.data l.crc l.i
+abbrev pub invariant-loop-b : goal.invariant-loop-b
+invariant-loop-b l = Fed 32 data_poly l.fn.initial l.data l.crc l.b-index

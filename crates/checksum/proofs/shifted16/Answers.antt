@@ -1,15 +1,12 @@
--- `checksum::shifted16` meets its contract: each turn of the loop is a turn of `BitLoop`, at the degree 16. Assumes nothing.
+-- A turn of the loop of `checksum::shifted16` is a turn of `BitLoop`, at the degree 16. Assumes nothing.
 use native.Mathlib.Omega.{arith}
 use lib.Bits.{and_mask}
 use lib.Dec.{lit<}
 use Rattle.paper.specs.Checksum.{length_poly}
-use Rattle.checksum.proofs.BitLoop.{held_none, turn_even, turn_odd, held_all}
+use Rattle.checksum.proofs.BitLoop.{turn_even, turn_odd}
 use Rattle.checksum.proofs.Constants.{length_constant}
 use Rattle.checksum.proofs.shifted16.Goals as goal
 use Rattle.checksum.proofs.shifted16.Goals.{then-c-eq1, else-c-eq1}
-
-pub loop-init : goal.loop-init
-loop-init c = held_none 16 length_poly (omega arith)
 
 pub loop-preserved : goal.loop-preserved
 loop-preserved c =
@@ -19,6 +16,3 @@ loop-preserved c =
       | then-c-eq1 w ↦ rw w.c-is (odd (omega arith) (omega (arith, low)))
       | else-c-eq1 w ↦ rw w.c-is (turn_even 16 length_poly c.loop.invariant (omega arith) (omega (arith, low)))
     ]
-
-pub returns : goal.returns
-returns c = held_all 16 length_poly c.loop.invariant (omega arith)
