@@ -6,8 +6,7 @@ use Prim.Native.Nat.{ℕ}
 use Rattle.paper.specs.declared.Geometry.{Geometry}
 use Rattle.paper.specs.Chip.{Event, image_after, buffer_after, Plan, plan, bind, and_then}
 use Rattle.chip.specs.declared.Budget.{Budget}
-use Rattle.chip.specs.declared.Spent.{Spent}
-use Rattle.chip.specs.Run.{made, Did, Acted, Ran, Showed}
+use Rattle.chip.specs.Run.{Spent, made, Did, Acted, Ran, Showed}
 use Rattle.chip.proofs.Running.{did_image, acted_then, acted_cut, acted_none, did_none}
 
 -- ---- with a buffer and without

@@ -8,3 +8,4 @@ pub mod Repairing
 pub mod Limiting
 pub mod Stores
 pub mod Writing
+pub mod Early

@@ -5,14 +5,14 @@ use mathlib.Core.List.{List, [], ◌∷◌, ◌++◌}
 use Prim.Native.Nat.{ℕ, zero, suc, ◌+◌}
 use native.Mathlib.Omega.{arith}
 use lib.ListN.{drop}
+use Rattle.std.proofs.Common.{Option, Some, None}
 use Rattle.paper.specs.declared.Geometry.{Geometry}
 use Rattle.paper.specs.declared.PageState.TheVariants.{Corrupted}
 use Rattle.paper.specs.Chip.{Event, store, erase, copy, words_for, words, writes, erase_page, image_by, buffer_by, buffer_after, before}
 use Rattle.paper.specs.Pages.{state, same, repairs, repair, all_pages}
 use Rattle.laws.proofs.ErasePage.{erase_page_is}
 use Rattle.chip.specs.declared.Budget.{Budget}
-use Rattle.chip.specs.declared.Spent.{Spent}
-use Rattle.chip.specs.Run.{allowed, made, Did, Acted}
+use Rattle.chip.specs.Run.{Spent, allowed, made, Did, Acted}
 
 -- how many copies a list of events makes
 unfoldable pub copy_count : List Event → ℕ
@@ -39,11 +39,11 @@ quiet_before (suc k) (erase p ∷ es) e = quiet_before k es e
 
 quiet_made : (b : Budget) (es : List Event) → copy_count es ≡ 0 → copy_count (made b es) ≡ 0
 unfolding made
-quiet_made b es e = go b.limited b.left
+quiet_made b es e = go b.0
   where
-    go : (l : Bool) (k : ℕ) → copy_count (allowed l k es) ≡ 0
-    go true k = quiet_before k es e
-    go false k = e
+    go : (l : Option ℕ) → copy_count (allowed l es) ≡ 0
+    go (Some k) = quiet_before k es e
+    go None = e
 
 quiet_buffer : (g : Geometry) (es : List Event) (i d : List ℕ) → copy_count es ≡ 0 → buffer_after g es i d ≡ d
 unfolding copy_count buffer_after buffer_by

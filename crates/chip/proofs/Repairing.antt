@@ -8,8 +8,7 @@ use Rattle.paper.specs.Chip.{Plan, Try, fails, gives}
 use Rattle.paper.specs.Pages.{repair}
 use Rattle.paper.specs.Steps.{retry, with_repair}
 use Rattle.chip.specs.declared.Budget.{Budget}
-use Rattle.chip.specs.declared.Spent.{Spent}
-use Rattle.chip.specs.Run.{Did, Ran, Showed}
+use Rattle.chip.specs.Run.{Spent, Did, Ran, Showed}
 use Rattle.chip.proofs.Quiet.{acted_quiet, repair_quiet}
 use Rattle.chip.proofs.Binding.{ran_of, showed_of, showed_none, showed_bind_cut, showed_bind_then, showed_and_cut, showed_and_then}
 

@@ -7,8 +7,7 @@ use Rattle.paper.specs.declared.Geometry.{Geometry}
 use Rattle.paper.specs.Chip.{Event, image_by, image_after, buffer_after, store_count}
 use Rattle.laws.proofs.Events.{image_append, buffer_append, count_append, copies_image, storeless}
 use Rattle.chip.specs.declared.Budget.{Budget}
-use Rattle.chip.specs.declared.Spent.{Spent}
-use Rattle.chip.specs.Run.{made, spend, Did, Acted}
+use Rattle.chip.specs.Run.{Spent, made, spend, Did, Acted}
 use Rattle.chip.proofs.Budgets.{spend_more, spend_cut, spend_none, made_more, made_cut, made_all, made_unpaid}
 
 -- ---- stores

@@ -1,12 +1,13 @@
 -- A store and an erase, byte by byte: the turns and ends of the loops that make them. Assumes nothing.
 use mathlib.Core.Path.{◌≡◌, sym, ap, ◌∙◌}
 use mathlib.Core.List.{List, ◌∷◌, ◌++◌}
-use Prim.Native.Nat.{ℕ, zero, suc, ◌+◌, ◌-◌, ◌≤◌, ◌<◌}
+use Prim.Native.Nat.{ℕ, suc, ◌+◌, ◌≤◌, ◌<◌}
 use native.Mathlib.Numerals.{add-one}
 use native.Mathlib.Omega.{arith}
 use lib.Bits.{bit_and}
-use lib.ListN.{length, get_or, set, take, drop, replicate, drop_of_length-le}
-use lib.Seq.{append_snoc, drop-cons, drop-set-lt, take-suc-set}
+use lib.ListN.{length, get_or, set, take, drop, drop_of_length-le}
+use lib.Seq.{append_snoc, drop-cons, drop-drop, drop-set-lt, take-suc-set}
+use borrow.Rule.Slice.PartMut.{put_mid}
 use Rattle.paper.specs.Chip.{put, ands}
 use Rattle.laws.proofs.Ands.{ands_nil}
 use Rattle.laws.proofs.Puts.{put_nil}
@@ -40,9 +41,7 @@ and_end im a word i h = rw (drop_of_length-le word h) (ap (λ (x : List ℕ). pu
 
 -- ---- an erase
 
-pub erase_step : (im : List ℕ) (a n : ℕ) → a < length im → 0 < n → put a (replicate n 0xff) im ≡ put (a + 1) (replicate (n - 1) 0xff) (set im a 0xff)
-erase_step im a zero h p = absurd (omega arith)
-erase_step im a (suc n) h p = let e : suc n - 1 ≡ n = omega arith in rw e (put_cons a 0xff (replicate n 0xff) im h)
-
-pub erase_end : (im : List ℕ) (a n : ℕ) → n ≡ 0 → put a (replicate n 0xff) im ≡ im
-erase_end im a n h = rw h (put_nil a im)
+-- what a write to a part of a slice leaves
+pub put_part : (a k : ℕ) (im ys bytes : List ℕ) → ys ≡ bytes → k ≡ length bytes → put_mid a k im ys ≡ put a bytes im
+unfolding put
+put_part a k im ys bytes e f = rw (e, f) (ap (λ (x : List ℕ). take a im ++ (bytes ++ x)) (drop-drop (length bytes) a im))

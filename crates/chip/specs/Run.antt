@@ -1,29 +1,59 @@
 -- What storing functions promise: the events of a list or of a plan, as far as a budget of stores lets them through. Assumes nothing.
-use Rattle.std.specs.Prelude.{◌≡◌, Bool, true, false, cond, ◌&&◌, List, ℕ, ◌-◌, ltb}
+use Rattle.std.specs.Prelude.{◌≡◌, Bool, true, false, cond, List, ℕ, ◌-◌, ltb, Option, Some, None, Result, Ok, Err}
 use Rattle.paper.specs.declared.Geometry.{Geometry}
 use Rattle.paper.specs.Chip.{Event, image_after, buffer_after, store_count, before, Plan}
+use Rattle.paper.specs.declared.Refusal.{Refusal}
 use Rattle.paper.specs.declared.Refusal.TheVariants as refusal
 use Rattle.paper.specs.Refusals.{Answer, refused}
 use Rattle.paper.specs.Calls.{limited}
 use Rattle.chip.specs.declared.Budget.{Budget}
-use Rattle.chip.specs.declared.Spent.{Spent}
+use Rattle.chip.specs.declared.Cut.{Cut}
+use Rattle.chip.specs.declared.Failure.{Failure}
+use Rattle.chip.specs.declared.Failure.TheVariants as failure
 
 -- ---- the budget
 
 -- the events that a budget lets through: without a limit all
-abbrev pub allowed : Bool → ℕ → List Event → List Event
-allowed true k es = before k es
-allowed false k es = es
+abbrev pub allowed : Option ℕ → List Event → List Event
+allowed (Some k) es = before k es
+allowed None es = es
 
 unfoldable pub made : Budget → List Event → List Event
-made b es = allowed b.limited b.left es
+made b es = allowed b.0 es
 
--- a budget after n stores were wanted of it: whether they were too many, and what is left
+-- whether n stores are more than a limit lets be made, and what is then left of it
+abbrev pub exceeds : Option ℕ → ℕ → Bool
+exceeds (Some k) n = ltb k n
+exceeds None n = false
+
+abbrev pub less : Option ℕ → ℕ → Option ℕ
+less (Some k) n = Some (k - n)
+less None n = None
+
+-- what stores come to: whether they were too many for the budget, and what is left of it
+pub record Spent : Type 0 where
+  pub cut : Bool
+  pub budget : Budget
+
+-- a budget after n stores were wanted of it
 unfoldable pub spend : Budget → ℕ → Spent
-spend b n = record {
-  cut = b.limited && ltb b.left n;
-  budget = record { limited = b.limited; left = cond b.limited (b.left - n) b.left };
-}
+spend b n = record { cut = exceeds b.0 n; budget = record { 0 = less b.0 n } }
+
+-- what a function came to that only stores, by its result and by the budget that it left
+abbrev pub paid : {X : Type 0} → Result X Cut → Budget → Spent
+paid (Ok x) b = record { cut = false; budget = b }
+paid (Err e) b = record { cut = true; budget = b }
+
+-- the same of a step that may also fail
+abbrev pub spent : {X : Type 0} → Result X Failure → Budget → Spent
+spent (Ok x) b = record { cut = false; budget = b }
+spent (Err failure.Corrupted) b = record { cut = false; budget = b }
+spent (Err failure.Cut) b = record { cut = true; budget = b }
+
+-- what a call is refused with where a step of it ended early
+abbrev pub refusal_of : Failure → Refusal
+refusal_of failure.Corrupted = refusal.Corrupted
+refusal_of failure.Cut = refusal.Cut
 
 -- ---- under a budget
 
@@ -61,9 +91,14 @@ pub record WholeShown {A : Type 0} (g : Geometry) (p : Plan A) (i o d e : List �
 
 -- ---- the whole call or the limited one, by a budget
 
--- what a call whose plan is p does under the budget b: with a limit it may be cut
+-- what a call whose plan is p does with a limit, where it may be cut, or without
+abbrev pub limited_by : Option ℕ → Plan Answer → Plan Answer
+limited_by (Some k) p = limited k p
+limited_by None p = p
+
+-- the same under the budget b
 abbrev pub under : Budget → Plan Answer → Plan Answer
-under b p = cond b.limited (limited b.left p) p
+under b p = limited_by b.0 p
 
 -- what it answers where it spent r and came to x
 abbrev pub unless_cut : Spent → Answer → Answer

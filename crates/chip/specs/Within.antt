@@ -1,9 +1,8 @@
 -- What the code is given by a geometry that passed the check, and what the check and rounding promise. Assumes nothing.
-use Rattle.std.specs.Prelude.{◌≡◌, ℕ, ◌+◌, ◌≤◌, ◌<◌}
+use Rattle.std.specs.Prelude.{◌≡◌, ℕ, ◌+◌, ◌≤◌, ◌<◌, Result, IfOk}
 use Rattle.paper.specs.declared.Shape.{Shape}
 use Rattle.paper.specs.declared.Geometry.{Geometry}
-use Rattle.paper.specs.declared.Checked.{Checked}
-use Rattle.paper.specs.declared.Checked.TheVariants.{Accepted}
+use Rattle.paper.specs.declared.Refusal.{Refusal}
 use Rattle.paper.specs.Chip.{round_up, header_size, range_end}
 use Rattle.paper.specs.Refusals.{check, word_limit}
 use Rattle.laws.specs.Sized.{Sized}
@@ -27,9 +26,9 @@ pub record Within (g : Geometry) (n : ℕ) : Type 0 where
   pub ends : range_end g ≤ n
 
 -- what checking a shape over an image of n bytes promises
-pub record Checks (n : ℕ) (s : Shape) (r : Checked) : Type 0 where
+pub record Checks (n : ℕ) (s : Shape) (r : Result Geometry Refusal) : Type 0 where
   pub answer : r ≡ check n s
-  pub within : (g : Geometry) → r ≡ Accepted g → Within g n
+  pub within : IfOk r (λ g. Within g n)
 
 -- what rounding n up to a word of w bytes promises
 pub record RoundedUp (w n r : ℕ) : Type 0 where

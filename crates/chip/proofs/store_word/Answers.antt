@@ -2,15 +2,17 @@
 -- nothing is left to put. Assumes nothing.
 use Rattle.std.proofs.Common.{refl, sym, ◌∙◌, ◌+◌, arith}
 use Rattle.paper.specs.Chip.{store, store_count, image_by}
+use Rattle.chip.proofs.Early.{paid_cut}
 use Rattle.chip.proofs.Running.{did_paid, did_unpaid}
 use Rattle.chip.proofs.Stores.{and_step, and_end}
 use Rattle.chip.proofs.store_word.Goals as goal
 
-pub returns-then-r : goal.returns-then-r
+pub returns-in_err-pay : goal.returns-in_err-pay
 unfolding store_count
-returns-then-r c =
+returns-in_err-pay c =
     let a = c.args in
-    did_unpaid a.g a.b (store a.at.0 a.word.now) a.image.now c.pay-r.result refl c.pay-r.ensures c.if-r.true
+    rw (paid_cut _ _ c.from_residual.ensures.0)
+    (did_unpaid a.g a.budget.now (store a.at.0 a.word.now) a.image.now _ refl c.in_err-pay.ensures refl)
 
 pub loop-i-preserved : goal.loop-i-preserved
 loop-i-preserved c =
@@ -24,5 +26,5 @@ unfolding image_by store_count
 returns c =
     let a = c.args in
     let l = c.loop-i in
-    did_paid a.g a.b (store a.at.0 a.word.now) a.image.now c.pay-r.result refl c.pay-r.ensures l.image c.if-r.false
+    did_paid a.g a.budget.now (store a.at.0 a.word.now) a.image.now _ refl c.in_ok-pay.ensures l.image refl
     (sym (and_end l.image (a.at.0 + l.i) a.word.now l.i (omega arith)) ∙ l.invariant.stored)
