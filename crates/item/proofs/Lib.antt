@@ -1,9 +1,7 @@
 pub mod Parts
-pub mod Blank
-pub mod Copying
+pub mod Encoding
 pub mod Decoding
 pub mod Looking
-pub mod Encoding
 pub mod Walking
 pub mod Live
 pub mod PageScan

@@ -1,14 +1,14 @@
 -- The live ones of a list of headers, and what the scan that stops at them tells. Assumes nothing.
-use mathlib.Core.Path.{◌≡◌, refl, ap, ◌∙◌, subst}
-use mathlib.Core.Bool.{Bool, true, false, cond, ◌||◌}
+use mathlib.Core.Path.{◌≡◌, refl, sym, ap, ◌∙◌, subst}
+use mathlib.Core.Bool.{true, false}
 use mathlib.Core.List.{List, [], ◌∷◌}
 use Prim.Native.Nat.{ℕ}
 use borrow.Author.Tests.{eq-eqb, ne_eqb}
+use native.Mathlib.Omega.{arith}
+use Rattle.std.specs.Prelude.{Option, Some, None, is_some}
 use Rattle.paper.specs.declared.Geometry.{Geometry}
 use Rattle.paper.specs.Scan.{Head, live, any_live}
 use Rattle.item.specs.declared.Item.{Item}
-use Rattle.item.specs.declared.Next.{Next}
-use Rattle.item.specs.declared.Next.TheVariants as next
 use Rattle.item.specs.Scanning.{walk_from, lives, Reaches, NextIs}
 
 module _ (h : Head) where
@@ -32,11 +32,7 @@ module _ (h : Head) where
 any_lives : (hs : List Head) → any_live hs ≡ any_live (lives hs)
 unfolding lives any_live
 any_lives [] = refl
-any_lives (h ∷ hs) = go (live h) refl (any_lives hs)
-  where
-    go : (t : Bool) → live h ≡ t → any_live hs ≡ any_live (lives hs) → (live h || any_live hs) ≡ any_live (cond t (h ∷ lives hs) (lives hs))
-    go true q e = rw q
-    go false q e = rw q e
+any_lives (h ∷ hs) = grind (arith, any_lives hs)
 
 pub any_none : (hs : List Head) → lives hs ≡ [] → any_live hs ≡ false
 unfolding any_live
@@ -48,9 +44,14 @@ any_some hs x r l e = any_lives hs ∙ ap any_live e ∙ rw l
 
 -- ---- the scan that stops at them
 
-module _ (g : Geometry) (im : List ℕ) (e a : ℕ) (r : Next) (h : NextIs g im e a r) where
-  pub reaches_of : (x : Item) → r ≡ next.Live x → Reaches g im e a x
+module _ (g : Geometry) (im : List ℕ) (e a : ℕ) (r : Option Item) (h : NextIs g im e a r) where
+  pub reaches_of : (x : Item) → r ≡ Some x → Reaches g im e a x
   reaches_of x q = subst (NextIs g im e a) q h
 
-  pub none_of_lem : r ≡ next.End → lives (walk_from g im e a).heads ≡ []
+  pub none_of_lem : r ≡ None → lives (walk_from g im e a).heads ≡ []
   none_of_lem q = subst (NextIs g im e a) q h
+
+-- it finds one where there is one
+pub any_is : (g : Geometry) (im : List ℕ) (e a : ℕ) (r : Option Item) → NextIs g im e a r → is_some r ≡ any_live (walk_from g im e a).heads
+any_is g im e a (Some x) h = sym (any_some _ _ _ h.alive h.first)
+any_is g im e a None h = sym (any_none _ h)

@@ -4,13 +4,14 @@ use mathlib.Core.List.{List}
 use Prim.Native.Nat.{ℕ, ◌-◌, ◌≤◌, ◌<◌}
 use native.Mathlib.Omega.{arith}
 use lib.ListN.{length}
+use Rattle.std.specs.Prelude.{Option}
 use Rattle.paper.specs.declared.Geometry.{Geometry}
 use Rattle.paper.specs.Chip.{data_start, data_size, data_end, page_data, part}
 use Rattle.paper.specs.Scan.{Walk, walk, page_walk, free_spot}
 use Rattle.chip.specs.Within.{Within}
+use Rattle.chip.specs.declared.Address.{Address}
 use Rattle.chip.proofs.Geometry.{data_in}
 use Rattle.item.specs.declared.Free.{Free}
-use Rattle.item.specs.declared.Spot.{Spot}
 use Rattle.item.specs.Places.{after, Inside, Room}
 use Rattle.item.specs.Scanning.{walk_from, FreeIs, PageFree, SpotIs}
 
@@ -32,7 +33,7 @@ module _ {g : Geometry} (im : List ℕ) {p a e : ℕ} (w : Within g (length im))
       let s : length (walk_from g im e a).rest ≡ length (page_walk g im p).rest = ap (λ (x : Walk). length x.rest) page_walk_lem in
       record { is = record { left = f.left ∙ s; ends = f.ends ∙ ee }; spot = omega (arith, f.left, f.ends) }
 
-  pub page_spot : (n : ℕ) (r : Spot) → SpotIs g (walk_from g im e a) e n r → SpotIs g (page_walk g im p) (data_end g p) n r
+  pub page_spot : (n : ℕ) (r : Option Address) → SpotIs g (walk_from g im e a) e n r → SpotIs g (page_walk g im p) (data_end g p) n r
   page_spot n r f = subst (λ (x : ℕ). SpotIs g (page_walk g im p) x n r) ee (subst (λ (x : Walk). SpotIs g x e n r) page_walk_lem f)
 
 pub page_room : {g : Geometry} {n p : ℕ} (a len : ℕ) → Within g n → p < g.pages → after g a len ≤ data_end g p → Room g n a len

@@ -1,23 +1,18 @@
 -- Parts of a list of bytes, further on, and written out. Assumes nothing.
 use mathlib.Core.Path.{◌≡◌, sym, ap₂, ◌∙◌}
 use mathlib.Core.List.{List, [], ◌∷◌, ◌++◌}
-use Prim.Native.Nat.{ℕ, zero, suc, ◌+◌, ◌-◌, ◌≤◌}
+use Prim.Native.Nat.{ℕ, suc, ◌+◌, ◌-◌, ◌≤◌}
 use native.Mathlib.Omega.{arith}
 use lib.ListN.{length, get_or, take, drop}
-use lib.Seq.{drop-drop, take-add, take-nil, drop-cons}
+use lib.Seq.{drop-drop, take-add, drop-cons}
+use Rattle.std.proofs.lemmas.Slice.{between_is}
 use Rattle.paper.specs.Chip.{part}
-
-drop_take : (k n : ℕ) (l : List ℕ) → drop k (take n l) ≡ take (n - k) (drop k l)
-drop_take zero n l = let e : n - 0 ≡ n = omega arith in rw e
-drop_take (suc k) zero l = let e : 0 - suc k ≡ 0 = omega arith in rw e
-drop_take (suc k) (suc n) [] = sym (take-nil (suc n - suc k))
-drop_take (suc k) (suc n) (x ∷ l) = let e : suc n - suc k ≡ n - k = omega arith in rw e (drop_take k n l)
 
 -- what stands up to place e, n bytes further on
 pub drop_part : (l : List ℕ) (a e n : ℕ) → drop n (part a (e - a) l) ≡ part (a + n) (e - (a + n)) l
 drop_part l a e n =
     let z : e - a - n ≡ e - (a + n) = omega arith in
-    drop_take n (e - a) (drop a l) ∙ ap₂ (λ (x : ℕ) (y : List ℕ). take x y) z (drop-drop n a l)
+    sym (between_is (drop a l) n (e - a)) ∙ ap₂ (λ (x : ℕ) (y : List ℕ). take x y) z (drop-drop n a l)
 
 -- two bytes, and the first four
 pub part_two : (l : List ℕ) (a : ℕ) → a + 2 ≤ length l → part a 2 l ≡ get_or l a 0 ∷ get_or l (suc a) 0 ∷ []

@@ -4,15 +4,15 @@ use mathlib.Core.List.{List, [], ◌∷◌, ◌++◌}
 use Prim.Native.Nat.{ℕ, zero, suc, ◌+◌, ◌-◌, ◌≤◌, ◌<◌}
 use native.Mathlib.Omega.{arith}
 use lib.ListN.{length, drop}
+use Rattle.std.specs.Prelude.{Option, Some, None, Result, Ok, Err}
 use Rattle.paper.specs.declared.Geometry.{Geometry}
 use Rattle.paper.specs.Chip.{round_up, header_size, part}
 use Rattle.paper.specs.Slip.{stop, bad, item, look}
 use Rattle.paper.specs.Scan.{Head, Walk, onward, walk}
 use Rattle.laws.proofs.Parts.{part_part, length_part}
 use Rattle.laws.proofs.Rounding.{round_up_ge}
+use Rattle.chip.specs.declared.Corrupted.{Corrupted}
 use Rattle.item.specs.declared.ItemHeader.{ItemHeader}
-use Rattle.item.specs.declared.MaybeHeader.{MaybeHeader}
-use Rattle.item.specs.declared.MaybeHeader.TheVariants as header
 use Rattle.item.specs.Places.{after, Inside}
 use Rattle.item.specs.Headers.{look_as, HeaderIs}
 use Rattle.item.specs.Reading.{head_at}
@@ -85,22 +85,22 @@ pub record Ends (g : Geometry) (im : List ℕ) (e a : ℕ) : Type 0 where
 pub inside_on : {g : Geometry} {n a e b : ℕ} → Inside g n a e → b ≤ e → Inside g n b e
 inside_on h l = record { good = h.good; order = l; ends = h.ends }
 
-module _ {g : Geometry} (im : List ℕ) {a e : ℕ} (inside : Inside g (length im) a e) (r : MaybeHeader)
+module _ {g : Geometry} (im : List ℕ) {a e : ℕ} (inside : Inside g (length im) a e) (r : Result (Option ItemHeader) Corrupted)
     (h : HeaderIs g (part a (e - a) im) r) where
   size : length (part a (e - a) im) ≡ e - a
   size = length_part a (e - a) im (omega arith)
 
-  told : (x : MaybeHeader) → r ≡ x → look g (part a (e - a) im) ≡ look_as g (part a (e - a) im) x
+  told : (x : Result (Option ItemHeader) Corrupted) → r ≡ x → look g (part a (e - a) im) ≡ look_as g (part a (e - a) im) x
   told x q = sym h ∙ ap (look_as g (part a (e - a) im)) q
 
-  pub from_stop : r ≡ header.Nothing → Ends g im e a
-  from_stop q =
-      let s = at_stop g a (part a (e - a) im) (told header.Nothing q) in
+  pub from_stop : {o : Option ItemHeader} → r ≡ Ok o → o ≡ None → Ends g im e a
+  from_stop q n =
+      let s = at_stop g a (part a (e - a) im) (told (Ok None) (q ∙ ap Ok n)) in
       record { heads = ap (λ (w : Walk). w.heads) s; rest = omega (arith, ap (λ (w : Walk). length w.rest) s, size) }
 
-  pub from_bad : r ≡ header.Bad → {b : ℕ} → b ≡ a + g.word → Passes g im e a [] b
-  from_bad q {b} eb =
-      let t = told header.Bad q in
+  pub from_bad : (x : Corrupted) → r ≡ Err x → {b : ℕ} → b ≡ a + g.word → Passes g im e a [] b
+  from_bad x q {b} eb =
+      let t = told (Err x) q in
       let o = inside.good in
       let l = bad_in g (part a (e - a) im) t in
       let s = at_bad g a (part a (e - a) im) t (omega (arith, size)) (omega arith) in
@@ -113,11 +113,11 @@ module _ {g : Geometry} (im : List ℕ) {a e : ℕ} (inside : Inside g (length i
         rest = s.rest ∙ ap (λ (v : Walk). v.rest) w;
       }
 
-  pub from_item : (x : ItemHeader) → r ≡ header.Accepted x → {b : ℕ} → b ≡ after g a x.length
+  pub from_item : (x : ItemHeader) {o : Option ItemHeader} → r ≡ Ok o → o ≡ Some x → {b : ℕ} → b ≡ after g a x.length
       → Passes g im e a (head_at g im a x ∷ []) b
-  from_item x q {b} eb =
+  from_item x q n {b} eb =
       let m : ℕ = header_size g + round_up g.word x.length in
-      let t = told (header.Accepted x) q in
+      let t = told (Ok (Some x)) (q ∙ ap Ok n) in
       let o = inside.good in
       let l = item_in g (part a (e - a) im) x.crc x.length _ t in
       let s = at_item g a (part a (e - a) im) x.crc x.length _ t (omega (arith, size)) m refl (omega arith) in

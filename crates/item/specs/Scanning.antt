@@ -1,15 +1,11 @@
 -- What the two forms of the scan, and the searches by them, come to. Assumes nothing.
-use Rattle.std.specs.Prelude.{◌≡◌, true, false, cond, List, [], ◌∷◌, ℕ, ◌+◌, ◌-◌, ◌≤◌, length}
+use Rattle.std.specs.Prelude.{◌≡◌, true, false, cond, List, [], ◌∷◌, Option, Some, None, ℕ, ◌+◌, ◌-◌, ◌≤◌, length}
 use Rattle.paper.specs.declared.Geometry.{Geometry}
 use Rattle.paper.specs.Chip.{data_end, part}
 use Rattle.paper.specs.Scan.{Head, Walk, walk, page_walk, free_spot, serves, live}
 use Rattle.chip.specs.declared.Address.{Address}
 use Rattle.item.specs.declared.Item.{Item}
-use Rattle.item.specs.declared.Next.{Next}
-use Rattle.item.specs.declared.Next.TheVariants as next
 use Rattle.item.specs.declared.Free.{Free}
-use Rattle.item.specs.declared.Spot.{Spot}
-use Rattle.item.specs.declared.Spot.TheVariants as spot
 use Rattle.item.specs.Places.{after}
 use Rattle.item.specs.Reading.{head_at, item_of}
 
@@ -34,9 +30,9 @@ pub record Reaches (g : Geometry) (im : List ℕ) (e a : ℕ) (x : Item) : Type 
       ≡ head_at g im x.address.0 x.header ∷ lives (walk_from g im e (after g x.address.0 x.header.length)).heads
 
 -- r is the first live header from address a on, or there is none
-abbrev pub NextIs : Geometry → List ℕ → ℕ → ℕ → Next → Type 0
-NextIs g im e a (next.Live x) = Reaches g im e a x
-NextIs g im e a next.End = lives (walk_from g im e a).heads ≡ []
+abbrev pub NextIs : Geometry → List ℕ → ℕ → ℕ → Option Item → Type 0
+NextIs g im e a (Some x) = Reaches g im e a x
+NextIs g im e a None = lives (walk_from g im e a).heads ≡ []
 
 -- ---- the scan that never stops
 
@@ -56,6 +52,6 @@ pub record Served (g : Geometry) (w : Walk) (e n : ℕ) (a : Address) : Type 0 w
   pub ends : a.0 + length w.rest ≡ e
 
 -- r is the free spot where it serves n bytes
-abbrev pub SpotIs : Geometry → Walk → ℕ → ℕ → Spot → Type 0
-SpotIs g w e n (spot.At a) = Served g w e n a
-SpotIs g w e n spot.Nowhere = serves g w.rest n ≡ false
+abbrev pub SpotIs : Geometry → Walk → ℕ → ℕ → Option Address → Type 0
+SpotIs g w e n (Some a) = Served g w e n a
+SpotIs g w e n None = serves g w.rest n ≡ false

@@ -1,21 +1,10 @@
 -- `item::ItemHeader::read_item` meets its contract: its tests are those of `read_as`; the payload's part is lent. Assumes nothing.
-use Rattle.std.proofs.Common.{List, ℕ, refl, sym, ap, ◌∙◌, arith}
+use Rattle.std.proofs.Common.{sym, ap, ◌∙◌, arith}
 use Rattle.paper.specs.Checksum.{data_crc}
-use Rattle.paper.specs.Chip.{put}
 use Rattle.checksum.proofs.Answers.{data_is}
 use Rattle.item.specs.declared.Item.{Item}
-use Rattle.item.proofs.ReadingItem.{payload_in, lent, read_popped, read_small, read_present, read_torn}
+use Rattle.item.proofs.ReadingItem.{payload_in, lent, read_present, read_torn}
 use Rattle.item.proofs.ItemHeader.read_item.Goals as goal
-
-pub returns-then-self-eq0 : goal.returns-then-self-eq0
-returns-then-self-eq0 c =
-    let a = c.args in
-    read_popped a.g a.image.now a.buffer.now a.address a.self c.item-item.ensures c.if-self-eq0.true
-
-pub returns-then-buffer-size : goal.returns-then-buffer-size
-returns-then-buffer-size c =
-    let a = c.args in
-    read_small a.g a.image.now a.buffer.now a.address a.self c.item-item.ensures c.if-self-eq0.false c.if-buffer-size.true
 
 pub slice_bounds-adapted_crc32-end : goal.slice_bounds-adapted_crc32-end
 slice_bounds-adapted_crc32-end c =
@@ -26,9 +15,9 @@ returns-then-adapted_crc32-self c =
     let a = c.args in
     let n = ap (λ (x : Item). x.size) c.item-item.ensures in
     let b = lent a.image.now c.data_address-start.ensures n in
-    let p = lent a.image.now c.data_address-start.ensures (refl {a = a.self.length}) in
-    read_present a.g a.image.now a.buffer.now a.address a.self c.item-item.ensures c.if-self-eq0.false c.if-buffer-size.false
-    (c.copy_to_front.ensures ∙ ap (λ (l : List ℕ). put 0 l a.buffer.now) b)
+    let p = lent a.image.now c.data_address-start.ensures c.from-length.ensures in
+    read_present a.g a.image.now a.buffer.now a.address a.self c.item-item.ensures c.if-self-eq0.false c.if-buffer-size.false _
+    (c.copy_from_slice.ensures.after ∙ b) c.copy_from_slice.ensures.len
     (ap data_crc (sym p) ∙ sym (data_is c.adapted_crc32.ensures) ∙ c.if-adapted_crc32-self.true)
 
 pub returns : goal.returns
@@ -36,7 +25,7 @@ returns c =
     let a = c.args in
     let n = ap (λ (x : Item). x.size) c.item-item.ensures in
     let b = lent a.image.now c.data_address-start.ensures n in
-    let p = lent a.image.now c.data_address-start.ensures (refl {a = a.self.length}) in
-    read_torn a.g a.image.now a.buffer.now a.address a.self c.item-item.ensures c.if-self-eq0.false c.if-buffer-size.false
-    (c.copy_to_front.ensures ∙ ap (λ (l : List ℕ). put 0 l a.buffer.now) b)
+    let p = lent a.image.now c.data_address-start.ensures c.from-length.ensures in
+    read_torn a.g a.image.now a.buffer.now a.address a.self c.item-item.ensures c.if-self-eq0.false c.if-buffer-size.false _
+    (c.copy_from_slice.ensures.after ∙ b) c.copy_from_slice.ensures.len
     (λ q. c.if-adapted_crc32-self.false (data_is c.adapted_crc32.ensures ∙ ap data_crc p ∙ q))
