@@ -1,4 +1,5 @@
 pub mod Marks
+pub mod States
 pub mod Rings
 pub mod Reading
 pub mod Tables

@@ -85,8 +85,8 @@ module _ (g : Geometry) (im : List ℕ) (t : List PageState) (want : PageState) 
     where
       by : (s w : Bool) → same (state g im q) Corrupted ≡ s → same (state g im q) want ≡ w → cond s failed (cond w (found q) (first g im want ps)) ≡ missing
           → (Covers g im t want ps → first g im want ps ≡ missing → (p : ℕ) → Memᴰ p ps → Has g im t p) → Has g im t p
-      by true w a b f r = let z : ◌≡◌ {A = ℕ} 0 1 = cc in absurd (omega arith)
-      by false true a b f r = let z : ◌≡◌ {A = ℕ} 0 1 = cc in absurd (omega arith)
+      by true w a b f r = cc
+      by false true a b f r = cc
       by false false a b f r = ⊎_elim (λ z. subst (Has g im t) (sym z) m.0) (λ n. r (m.1 (a, b)) f p n) (Memᴰ.cases_cons i)
 
   -- where it found none, every page is in the table
@@ -97,7 +97,7 @@ module _ (g : Geometry) (im : List ℕ) (t : List PageState) (want : PageState) 
   found_has : (n a p : ℕ) → a + n ≡ g.pages → Covers g im t want (around g (g.pages - a) a) → first g im want (around g (g.pages - a) a) ≡ found p
       → (same (state g im p) want ≡ true) × ((q : ℕ) → a ≤ q → q ≤ p → Has g im t q)
   unfolding first
-  found_has zero a p l m e = let f = rw (order_last g a (omega arith)) at e in let z : ◌≡◌ {A = ℕ} 0 1 = cc in absurd (omega arith)
+  found_has zero a p l m e = let f = rw (order_last g a (omega arith)) at e in cc
   found_has (suc n) a p l m e =
       let k = rw (order_next g a (omega arith)) at m in
       let f = rw (order_next g a (omega arith)) at e in
@@ -111,7 +111,7 @@ module _ (g : Geometry) (im : List ℕ) (t : List PageState) (want : PageState) 
           → (Covers g im t want later → first g im want later ≡ found p
           → (same (state g im p) want ≡ true) × ((q : ℕ) → a + 1 ≤ q → q ≤ p → Has g im t q))
           → (same (state g im p) want ≡ true) × ((q : ℕ) → a ≤ q → q ≤ p → Has g im t q)
-      by true w x y f k r = let z : ◌≡◌ {A = ℕ} 0 1 = cc in absurd (omega arith)
+      by true w x y f k r = cc
       by false true x y f k r =
           let z : a ≡ p = cc in
           (subst (λ (v : ℕ). same (state g im v) want ≡ true) z y, λ q h i. let v : a ≡ q = omega arith in subst (Has g im t) v k.0)
@@ -136,7 +136,7 @@ module _ (g : Geometry) (im : List ℕ) (t : List PageState) where
   reached m y e = by (first g im PartialOpen (all_pages g)) refl e
     where
       by : (x : Found) → first g im PartialOpen (all_pages g) ≡ x → found_or x (open_from g im (first g im Closed (all_pages g))) ≡ gives y → Reached y
-      by failed a f = let z : ◌≡◌ {A = ℕ} 0 1 = cc in absurd (omega arith)
+      by failed a f = cc
       by (found p) a f =
           let z : p ≡ y = cc in
           let r = found_has g im t PartialOpen g.pages 0 y (omega arith) (rw (order_first g) at m) (rw (order_first g, z) at a) in

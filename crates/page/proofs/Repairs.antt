@@ -1,9 +1,10 @@
 -- Repair, page by page: a page's turn changes no other page's state, so that its events go by the image that the repair began with. Assumes nothing.
 use mathlib.Core.Path.{◌≡◌, refl}
-use mathlib.Core.Bool.{Bool, true, false, cond}
+use mathlib.Core.Bool.{Bool, true, false}
 use mathlib.Core.List.{List, [], ◌∷◌, ◌++◌, append-nil}
 use Prim.Native.Nat.{ℕ, ◌*◌, ◌≤◌, ◌<◌}
 use native.Mathlib.Omega.{arith}
+use Rattle.std.proofs.lemmas.Bool.Decides.{nat_tests}
 use lib.ListN.{length}
 use Rattle.paper.specs.declared.Geometry.{Geometry}
 use Rattle.paper.specs.declared.PageState.{PageState}
@@ -13,9 +14,8 @@ use Rattle.paper.specs.Pages.{state, same, repairs}
 use Rattle.laws.proofs.ErasePage.{erase_others}
 use Rattle.laws.proofs.PageBytes.{state_same}
 use Rattle.chip.specs.declared.Budget.{Budget}
-use Rattle.chip.specs.declared.Spent.{Spent}
 use Rattle.chip.specs.Within.{Within}
-use Rattle.chip.specs.Run.{Did}
+use Rattle.chip.specs.Run.{Spent, Did}
 use Rattle.chip.proofs.Running.{did_then, did_cut}
 
 pub repairs_none : (g : Geometry) (im : List ℕ) → repairs g im [] ≡ []
@@ -35,11 +35,7 @@ module _ (g : Geometry) (im : List ℕ) (p : ℕ) (s : PageState) (e : s ≡ sta
 
 repairs_cons : (g : Geometry) (im : List ℕ) (p : ℕ) (ps : List ℕ) → repairs g im (p ∷ ps) ≡ repairs g im (p ∷ []) ++ repairs g im ps
 unfolding repairs
-repairs_cons g im p ps = go (same (state g im p) Corrupted)
-  where
-    go : (t : Bool) → cond t (erase_page g p ++ repairs g im ps) (repairs g im ps) ≡ cond t (erase_page g p ++ []) [] ++ repairs g im ps
-    go true = rw append-nil
-    go false = refl
+repairs_cons g im p ps = grind (arith, nat_tests, append-nil)
 
 repairs_same : (g : Geometry) (i im : List ℕ) (p : ℕ) → state g i p ≡ state g im p → repairs g i (p ∷ []) ≡ repairs g im (p ∷ [])
 unfolding repairs

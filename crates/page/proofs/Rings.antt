@@ -1,7 +1,7 @@
 -- Going round the ring page by page: a loop that counts from page 0 goes over all pages. Assumes nothing.
 use mathlib.Core.Path.{◌≡◌, refl, sym, ap, ◌∙◌}
 use mathlib.Core.List.{List, [], ◌∷◌}
-use Prim.Native.Nat.{ℕ, zero, suc, ◌+◌, ◌-◌, ◌≤◌, ◌<◌}
+use Prim.Native.Nat.{ℕ, suc, ◌+◌, ◌-◌, ◌≤◌, ◌<◌}
 use native.Mathlib.Nat.{sub-zero}
 use native.Mathlib.Omega.{arith}
 use Rattle.paper.specs.declared.Geometry.{Geometry}
@@ -16,10 +16,9 @@ module _ (g : Geometry) where
   unfolding around
   around_none p = refl
 
-  pub around_next : (k p : ℕ) → 0 < k → around g k p ≡ p ∷ around g (k - 1) (next g p)
+  pub around_next : (n k p : ℕ) → n ≡ suc k → around g n p ≡ p ∷ around g k (next g p)
   unfolding around
-  around_next zero p h = absurd (omega arith)
-  around_next (suc k) p h = let e : suc k - 1 ≡ k = omega arith in rw e
+  around_next n k p e = rw e
 
   -- ---- all pages, in page order
 
@@ -32,8 +31,7 @@ module _ (g : Geometry) where
 
   pub order_next : (p : ℕ) → p < g.pages → around g (g.pages - p) p ≡ p ∷ around g (g.pages - (p + 1)) (p + 1)
   order_next p h =
-      let e : g.pages - p - 1 ≡ g.pages - (p + 1) = omega arith in
-      around_next (g.pages - p) p (omega arith) ∙ rw e (ap (λ (l : List ℕ). p ∷ l) (by (apart (p + 1) g.pages)))
+      around_next (g.pages - p) (g.pages - (p + 1)) p (omega arith) ∙ ap (λ (l : List ℕ). p ∷ l) (by (apart (p + 1) g.pages))
     where
       by : Apart (p + 1) g.pages → around g (g.pages - (p + 1)) (next g p) ≡ around g (g.pages - (p + 1)) (p + 1)
       by (is e) = let z : g.pages - (p + 1) ≡ 0 = omega arith in rw z (around_none (next g p) ∙ sym (around_none (p + 1)))

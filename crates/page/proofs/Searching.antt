@@ -2,42 +2,46 @@
 use mathlib.Core.Path.{◌≡◌, refl, sym, ap, ◌∙◌, subst}
 use mathlib.Core.Bool.{true, false}
 use mathlib.Core.List.{List, ◌∷◌}
-use Prim.Native.Nat.{ℕ, ◌-◌, ◌<◌}
+use Prim.Native.Nat.{ℕ, suc, ◌<◌}
 use native.Mathlib.Omega.{arith}
 use lib.ListN.{get_or}
+use Rattle.std.specs.Prelude.{Option, None, Some, Ok, ok_or}
+use Rattle.chip.specs.declared.Corrupted as failing
+use Rattle.chip.specs.declared.Page.{Page}
 use Rattle.paper.specs.declared.Geometry.{Geometry}
 use Rattle.paper.specs.declared.PageState.{PageState}
 use Rattle.paper.specs.declared.PageState.TheVariants.{Open, Corrupted}
 use Rattle.paper.specs.Chip.{Try, fails, gives}
 use Rattle.paper.specs.Pages.{same, next, around, from, Found, failed, found, missing, first, found_or}
 use Rattle.page.specs.Table.{Table, Covers}
-use Rattle.page.specs.Searches.{Sees}
+use Rattle.page.specs.Searches.{sought_as, chosen_as, Sees}
 use Rattle.page.proofs.Rings.{around_none, around_next}
 use Rattle.page.proofs.Reading.{table_covers}
 
 -- ---- the search
 
--- k pages are left, from page p on, and the table covers the search along them
-module _ (g : Geometry) (im : List ℕ) (t : List PageState) (want : PageState) (k p : ℕ) (h : 0 < k) (m : Covers g im t want (around g k p)) where
-  covered : Covers g im t want (p ∷ around g (k - 1) (next g p))
-  covered = subst (Covers g im t want) (around_next g k p h) m
+-- n pages are left, of which k come behind page p, and the table covers the search along them
+module _ (g : Geometry) (im : List ℕ) (t : List PageState) (want : PageState) (n k p : ℕ) (e : n ≡ suc k)
+    (m : Covers g im t want (around g n p)) where
+  covered : Covers g im t want (p ∷ around g k (next g p))
+  covered = subst (Covers g im t want) (around_next g n k p e) m
 
-  pub first_failed : same (get_or t p Open) Corrupted ≡ true → first g im want (around g k p) ≡ failed
+  pub first_failed : same (get_or t p Open) Corrupted ≡ true → first g im want (around g n p) ≡ failed
   unfolding first
-  first_failed c = rw (around_next g k p h, ← covered.0, c)
+  first_failed c = rw (around_next g n k p e, ← covered.0, c)
 
-  module _ (n : same (get_or t p Open) Corrupted ≡ false) where
-    pub first_here : same (get_or t p Open) want ≡ true → first g im want (around g k p) ≡ found p
+  module _ (f : same (get_or t p Open) Corrupted ≡ false) where
+    pub first_here : same (get_or t p Open) want ≡ true → first g im want (around g n p) ≡ found p
     unfolding first
-    first_here c = rw (around_next g k p h, ← covered.0, n, c)
+    first_here c = rw (around_next g n k p e, ← covered.0, f, c)
 
     module _ (c : same (get_or t p Open) want ≡ false) where
-      pub first_on : first g im want (around g k p) ≡ first g im want (around g (k - 1) (next g p))
+      pub first_on : first g im want (around g n p) ≡ first g im want (around g k (next g p))
       unfolding first
-      first_on = rw (around_next g k p h, ← covered.0, n, c)
+      first_on = rw (around_next g n k p e, ← covered.0, f, c)
 
-      pub first_covered : Covers g im t want (around g (k - 1) (next g p))
-      first_covered = covered.1 (ap (λ s. same s Corrupted) (sym covered.0) ∙ n, ap (λ s. same s want) (sym covered.0) ∙ c)
+      pub first_covered : Covers g im t want (around g k (next g p))
+      first_covered = covered.1 (ap (λ s. same s Corrupted) (sym covered.0) ∙ f, ap (λ s. same s want) (sym covered.0) ∙ c)
 
 pub first_none : (g : Geometry) (im : List ℕ) (want : PageState) (k p : ℕ) → k ≡ 0 → first g im want (around g k p) ≡ missing
 unfolding first
@@ -47,7 +51,7 @@ first_none g im want k p e = rw (e, around_none g p)
 
 module _ {g : Geometry} {K : List ℕ → Type 0} where
   pub sees_failed : Sees {A = Try Unit ℕ} g K gives (fails tt) (λ im. fails tt)
-  sees_failed = record { is = λ im k. refl; within = λ p e. let z : ◌≡◌ {A = ℕ} 0 1 = cc in absurd (omega arith) }
+  sees_failed = record { is = λ im k. refl; within = λ p e. cc }
 
   pub sees_page : (p : ℕ) → p < g.pages → Sees {A = Try Unit ℕ} g K gives (gives p) (λ im. gives p)
   sees_page p h = record { is = λ im k. refl; within = λ q e. let z : p ≡ q = cc in omega arith }
@@ -78,6 +82,11 @@ module _ {g : Geometry} {K : List ℕ → Type 0} where
       go failed e = sees_on (λ im w. found_or w (h im)) s e sees_failed
       go (found p) e = sees_on (λ im w. found_or w (h im)) s e (sees_page p (s.within p e))
       go missing e = sees_on (λ im w. found_or w (h im)) s e (sees_by (λ im k. k.0) v)
+
+-- the page found, else a failure: `ok_or`
+pub ok_or_as : (o : Option Page) (e : failing.Corrupted) → chosen_as (ok_or o e) ≡ found_or (sought_as (Ok o)) (fails tt)
+ok_or_as None e = refl
+ok_or_as (Some p) e = refl
 
 -- ---- over a table of all pages
 

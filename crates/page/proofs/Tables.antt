@@ -1,11 +1,8 @@
 -- A table of states is read page by page, up to where a search ends. Assumes nothing.
-use mathlib.Core.Path.{◌≡◌, refl, ◌∙◌}
-use mathlib.Core.Bool.{Bool, true, false}
+use mathlib.Core.Path.{◌≡◌, ◌∙◌}
 use mathlib.Core.List.{List}
 use Prim.Native.Nat.{ℕ, ◌+◌, ◌-◌, ◌≤◌, ◌<◌}
 use native.Mathlib.Omega.{arith}
-use borrow.Author.Tests.{eqb-true, eqb-false}
-use lib.Dec.{eqb}
 use lib.ListN.{length, get_or, set}
 use lib.Seq.{get_or-set_same, get_or-set_other}
 use Rattle.paper.specs.declared.Geometry.{Geometry}
@@ -38,11 +35,7 @@ module _ (g : Geometry) (im : List ℕ) (t₀ t : List PageState) (want : PageSt
   put_kept q k = get_or-set_other t p q s Open (λ z. absurd (omega arith)) ∙ kept q k
 
   pub put_has : (q : ℕ) → a ≤ q → q < p + 1 → Has g im (set t p s) q
-  put_has q k m = go (eqb q p) refl
-    where
-      go : (b : Bool) → eqb q p ≡ b → Has g im (set t p s) q
-      go true x = let z : q ≡ p = eqb-true q p x in rw z (get_or-set_same t p s Open l ∙ e)
-      go false x = let n = eqb-false q p x in get_or-set_other t p q s Open n ∙ has q k (omega (arith, n))
+  put_has q k m = grind (arith, get_or-set_same, get_or-set_other)
 
   pub put_end : p < g.pages → (Passed g im want p → ⊥) → ReadFrom g im t₀ a want (set t p s)
   put_end k n =

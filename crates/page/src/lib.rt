@@ -6,29 +6,14 @@ ghost use Rattle.std.specs.Prelude.{◌≡◌, cond, [], ◌∷◌, ℕ, ◌+◌
 ghost use Rattle.std.specs.Int.Count.{ones};
 ghost use Rattle.paper.specs.declared.PageState.TheVariants.{Open, PartialOpen, Closed};
 ghost use Rattle.paper.specs.Chip.{part, Event, erase_page, gives};
-ghost use Rattle.paper.specs.Pages.{is_set, state_by, state, set_start, set_end, rank, same, next, from, all_pages, found, first, found_or, open_from, youngest, oldest, repairs, repair};
+ghost use Rattle.paper.specs.Pages.{is_set, state_by, state, set_start, set_end, rank, same, next, from, all_pages, found, first, open_from, youngest, oldest, repairs, repair};
 ghost use Rattle.chip.specs.Within.{Good, Within};
-ghost use Rattle.chip.specs.Run.{Did};
+ghost use Rattle.chip.specs.Run.{paid, Did};
 ghost use Rattle.page.specs.Table.{Table, Covers, ReadFrom};
 ghost use Rattle.page.specs.Searches.{sought_as, chosen_as, Sees};
 
-use chip::{Address, Budget, MAX_PAGES, MAX_WORD_SIZE, Page, Spent};
+use chip::{Address, Budget, Corrupted, Cut, MAX_PAGES, MAX_WORD_SIZE, Page};
 use paper::{Geometry, PageState};
-
-// What a search comes to: it met a Corrupted page, found a page, or came round with none.
-#[derive(Clone, Copy)]
-pub enum Sought {
-    Failed,
-    At(Page),
-    Missing,
-}
-
-// What the searches for the youngest and the oldest page come to: they always end at a page, or fail.
-#[derive(Clone, Copy)]
-pub enum Chosen {
-    Corrupted,
-    At(Page),
-}
 
 // What setting a mark stores in each byte.
 const MARKER: u8 = 0;
@@ -41,64 +26,56 @@ const ERASED: u8 = 0xff;
 
 // A Corrupted page is likely half erased, so it is erased once more. Each state is read when its page's turn comes, as in the Rust: the
 // erases before it have not changed it.
-pub fn try_general_repair(image: &mut [u8], b: Budget, g: Geometry) -> Spent
+//
+// A step that failed is run once more after it. The Rust has a macro for that; here spot_for, find_start, next and the counts have these
+// lines each. A function that takes the step would be no plainer: a closure over the lent image, buffer and budget, and a contract over
+// every plan.
+pub fn try_general_repair(image: &mut [u8], budget: &mut Budget, g: Geometry) -> Result<(), Cut>
     requires { Within g (length image.old) }
-    ensures { Did g b (repair g image.old) image.old image.new result }
+    ensures { Did g budget.old (repair g image.old) image.old image.new (paid result budget.new) }
 {
-    let mut budget = b;
-    let mut p = 0;
-    while p < g.pages {
-        let r = repair_page(image, budget, g, Page(p));
-        if r.cut {
-            return r;
-        }
-        budget = r.budget;
-        p += 1;
+    for p in 0..g.pages {
+        repair_page(image, budget, g, Page(p))?;
     }
-    Spent { cut: false, budget }
+    Ok(())
 }
 
-fn repair_page(image: &mut [u8], b: Budget, g: Geometry, p: Page) -> Spent
+fn repair_page(image: &mut [u8], budget: &mut Budget, g: Geometry, p: Page) -> Result<(), Cut>
     requires { Within g (length image.old) × (p.0 < g.pages) }
-    ensures { Did g b (repairs g image.old (p.0 ∷ [])) image.old image.new result }
+    ensures { Did g budget.old (repairs g image.old (p.0 ∷ [])) image.old image.new (paid result budget.new) }
 {
     let current = get_page_state(&image[..], g, p);
-    if is_same(current, PageState::Corrupted) {
-        return open_page(image, b, g, p);
+    if current == PageState::Corrupted {
+        return open_page(image, budget, g, p);
     }
-    Spent {
-        cut: false,
-        budget: b,
-    }
+    Ok(())
 }
 
 // ---- the ring
 
-// From `start` on, round to the page before it; a Corrupted page on the way ends the search.
+// From `start` on, round to the page before it: None where no page is in the wanted state. A Corrupted page on the way ends the search.
+#[tactic(auto, using(crate::proofs::Searching::first_none))]
 pub fn find_first_page(
     table: [PageState; MAX_PAGES],
     g: Geometry,
     start: Page,
     want: PageState,
-) -> Sought
+) -> Result<Option<Page>, Corrupted>
     requires { Good g × (start.0 < g.pages) }
     ensures { Sees g (λ im. Covers g im table want (from g start.0)) found (sought_as result) (λ im. first g im want (from g start.0)) }
 {
-    let mut left = g.pages;
     let mut p = start;
-    while 0 < left {
-        let i = p.0 as usize;
-        let s = table[i];
-        if is_same(s, PageState::Corrupted) {
-            return Sought::Failed;
+    for _ in 0..g.pages {
+        let s = table[p.0 as usize];
+        if s == PageState::Corrupted {
+            return Err(Corrupted);
         }
-        if is_same(s, want) {
-            return Sought::At(p);
+        if s == want {
+            return Ok(Some(p));
         }
         p = next_page(g, p);
-        left -= 1;
     }
-    Sought::Missing
+    Ok(None)
 }
 
 #[tactic(auto, using(laws::proofs::Ring::next_round, laws::proofs::Ring::next_on))]
@@ -115,7 +92,9 @@ pub fn next_page(g: Geometry, p: Page) -> Page
 
 // ---- marks and states
 
-// The states of one call, each read once and only as far as a search goes: the one for the youngest page ends at a PartialOpen page.
+// The states of one call, each read once and only as far as a search goes: the one for the youngest page ends at a PartialOpen page. They are
+// an array by value, handed to the searches beside the geometry, as document 01 asks.
+#[tactic(auto, using(crate::proofs::Rings::order_first))]
 pub fn page_states(image: &[u8], g: Geometry) -> [PageState; MAX_PAGES]
     requires { Within g (length image.now) }
     ensures { Covers g image.now result PartialOpen (all_pages g) }
@@ -135,9 +114,7 @@ fn states_behind(
     requires { Within g (length image.now) × Covers g image.now table PartialOpen (all_pages g) × (youngest g image.now ≡ gives y.0) × (y.0 < g.pages) }
     ensures { Covers g image.now result Closed (from g y.0) }
 {
-    let i = y.0 as usize;
-    let s = table[i];
-    if is_same(s, PageState::PartialOpen) {
+    if table[y.0 as usize] == PageState::PartialOpen {
         return read_states(image, g, table, y.0 + 1, PageState::Closed);
     }
     table
@@ -155,22 +132,17 @@ fn read_states(
     ensures { ReadFrom g image.now table start want result }
 {
     let mut states = table;
-    let mut p = start;
-    while p < g.pages {
+    for p in start..g.pages {
         let s = get_page_state(image, g, Page(p));
-        let i = p as usize;
-        states[i] = s;
-        if is_same(s, PageState::Corrupted) {
-            return states;
+        states[p as usize] = s;
+        if s == PageState::Corrupted || s == want {
+            break;
         }
-        if is_same(s, want) {
-            return states;
-        }
-        p += 1;
     }
     states
 }
 
+#[tactic(auto, using(crate::proofs::Marks::state_is, crate::proofs::Marks::start_in, crate::proofs::Marks::end_in))]
 pub fn get_page_state(image: &[u8], g: Geometry, p: Page) -> PageState
     requires { Within g (length image.now) × (p.0 < g.pages) }
     ensures { result ≡ state g image.now p.0 }
@@ -183,23 +155,21 @@ pub fn get_page_state(image: &[u8], g: Geometry, p: Page) -> PageState
 }
 
 // Four zero bits decide, so a mark that was stored is known by its first byte. An erased one is FF to its end: FF is passed uncounted.
+#[tactic(auto, unfolding(paper::specs::Pages::is_set), using(crate::proofs::Marks::zeros_next, crate::proofs::Marks::zeros_end))]
 fn is_marked(image: &[u8], g: Geometry, at: Address) -> bool
     requires { Good g × (at.0 + g.word ≤ length image.now) }
     ensures { result ≡ is_set (part at.0 g.word image.now) }
 {
     let a = at.0 as usize;
     let w = g.word as usize;
-    let mut n: u32 = 0;
-    let mut i = 0;
-    while i < w {
-        let b = image[a + i];
-        if b != ERASED {
-            n += zero_bits(b);
+    let mut n = 0;
+    for b in &image[a..a + w] {
+        if *b != ERASED {
+            n += zero_bits(*b);
             if HALF_MARKER_BITS <= n {
                 return true;
             }
         }
-        i += 1;
     }
     false
 }
@@ -207,149 +177,124 @@ fn is_marked(image: &[u8], g: Geometry, at: Address) -> bool
 fn zero_bits(byte: u8) -> u32
     ensures { (result ≡ 8 - ones byte) × (result ≤ 8) }
 {
-    8 - u8::count_ones(byte)
+    8 - byte.count_ones()
 }
 
 fn discovered_state(start: bool, end: bool) -> PageState
     ensures { result ≡ state_by start end }
 {
-    if start {
-        if end {
-            return PageState::Closed;
-        }
-        return PageState::PartialOpen;
+    match (start, end) {
+        (false, false) => PageState::Open,
+        (true, false) => PageState::PartialOpen,
+        (true, true) => PageState::Closed,
+        (false, true) => PageState::Corrupted,
     }
-    if end {
-        return PageState::Corrupted;
-    }
-    PageState::Open
 }
 
-// States are compared by their number.
-pub fn is_same(s: PageState, t: PageState) -> bool
-    ensures { result ≡ same s t }
-{
-    rank(s) == rank(t)
-}
-
+// The number by which C is told a state.
 pub fn rank(s: PageState) -> u32
     ensures { result ≡ rank s }
 {
-    match s {
-        PageState::Open => 0,
-        PageState::PartialOpen => 1,
-        PageState::Closed => 2,
-        PageState::Corrupted => 3,
-    }
+    s as u32
 }
 
 // ---- stores
 
-// An erased page is Open.
-pub fn open_page(image: &mut [u8], b: Budget, g: Geometry, p: Page) -> Spent
+// An erased page is Open: the Rust's name for chip::erase_page.
+pub fn open_page(image: &mut [u8], budget: &mut Budget, g: Geometry, p: Page) -> Result<(), Cut>
     requires { Within g (length image.old) × (p.0 < g.pages) }
-    ensures { Did g b (erase_page g p.0) image.old image.new result }
+    ensures { Did g budget.old (erase_page g p.0) image.old image.new (paid result budget.new) }
 {
-    chip::erase_page(image, b, g, p)
+    chip::erase_page(image, budget, g, p)
 }
 
+// This and mark_start have the Rust's names, and differ in the mark that they hand to store_mark.
+//
 // The Rust first calls partial_close_page, and stores the end mark only if the page is PartialOpen then. Callers here have just made it so
 // or seen it so: there is nothing to store before the end mark, and nothing to look at.
-pub fn close_page(image: &mut [u8], b: Budget, g: Geometry, p: Page) -> Spent
+#[tactic(auto, unfolding(paper::specs::Pages::set_end), using(crate::proofs::Marks::end_in))]
+pub fn close_page(image: &mut [u8], budget: &mut Budget, g: Geometry, p: Page) -> Result<(), Cut>
     requires { Within g (length image.old) × (p.0 < g.pages) }
-    ensures { Did g b (set_end g p.0 ∷ []) image.old image.new result }
+    ensures { Did g budget.old (set_end g p.0 ∷ []) image.old image.new (paid result budget.new) }
 {
     let end = chip::page_data_end_address(g, p);
-    store_mark(image, b, g, end)
+    store_mark(image, budget, g, end)
 }
 
 // Only an Open page gets its start mark: a PartialOpen or Closed page has it, and a Corrupted one is left for the repair.
-pub fn partial_close_page(image: &mut [u8], b: Budget, g: Geometry, p: Page) -> Spent
+pub fn partial_close_page(
+    image: &mut [u8],
+    budget: &mut Budget,
+    g: Geometry,
+    p: Page,
+) -> Result<(), Cut>
     requires { Within g (length image.old) × (p.0 < g.pages) }
-    ensures { Did g b (cond (same (state g image.old p.0) Open) (set_start g p.0 ∷ []) []) image.old image.new result }
+    ensures { Did g budget.old (cond (same (state g image.old p.0) Open) (set_start g p.0 ∷ []) []) image.old image.new (paid result budget.new) }
 {
     let current = get_page_state(&image[..], g, p);
-    if is_same(current, PageState::Open) {
-        return mark_start(image, b, g, p);
+    if current == PageState::Open {
+        return mark_start(image, budget, g, p);
     }
-    Spent {
-        cut: false,
-        budget: b,
-    }
+    Ok(())
 }
 
 // partial_close_page where the page was just erased, or just seen to be Open, so that its state need not be read again.
-pub fn mark_start(image: &mut [u8], b: Budget, g: Geometry, p: Page) -> Spent
+#[tactic(auto, unfolding(paper::specs::Pages::set_start), using(crate::proofs::Marks::start_in))]
+pub fn mark_start(image: &mut [u8], budget: &mut Budget, g: Geometry, p: Page) -> Result<(), Cut>
     requires { Within g (length image.old) × (p.0 < g.pages) }
-    ensures { Did g b (set_start g p.0 ∷ []) image.old image.new result }
+    ensures { Did g budget.old (set_start g p.0 ∷ []) image.old image.new (paid result budget.new) }
 {
     let start = chip::calculate_page_address(g, p);
-    store_mark(image, b, g, start)
+    store_mark(image, budget, g, start)
 }
 
-fn store_mark(image: &mut [u8], b: Budget, g: Geometry, at: Address) -> Spent
+// As many of the array's bytes count as a word has: there is no heap.
+fn store_mark(image: &mut [u8], budget: &mut Budget, g: Geometry, at: Address) -> Result<(), Cut>
     requires { Good g × (at.0 + g.word ≤ length image.old) }
-    ensures { Did g b (Event.store at.0 (replicate g.word 0) ∷ []) image.old image.new result }
+    ensures { Did g budget.old (Event.store at.0 (replicate g.word 0) ∷ []) image.old image.new (paid result budget.new) }
 {
     let mark = [MARKER; MAX_WORD_SIZE];
     let w = g.word as usize;
-    chip::store_word(image, b, g, at, &mark[..w])
+    chip::store_word(image, budget, g, at, &mark[..w])
 }
 
 // ---- the two ends of the queue
 
-pub fn find_youngest_page(table: [PageState; MAX_PAGES], g: Geometry) -> Chosen
+#[tactic(auto, unfolding(paper::specs::Pages::youngest, paper::specs::Pages::all_pages), using(crate::proofs::Reading::all_read))]
+pub fn find_youngest_page(table: [PageState; MAX_PAGES], g: Geometry) -> Result<Page, Corrupted>
     requires { Good g }
     ensures { Sees g (λ im. Covers g im table PartialOpen (all_pages g)) gives (chosen_as result) (youngest g) }
 {
-    let last_used = find_first_page(table, g, Page(0), PageState::PartialOpen);
-    match last_used {
-        Sought::Failed => Chosen::Corrupted,
-        Sought::At(p) => Chosen::At(p),
-        Sought::Missing => find_open_page(table, g),
+    if let Some(last_used) = find_first_page(table, g, Page(0), PageState::PartialOpen)? {
+        return Ok(last_used);
     }
+    find_open_page(table, g)
 }
 
 // No page is PartialOpen. A Closed page is the anchor, and the first Open page after it is the one to use. With no Closed page all are
 // Open, and page 0 will do; with no Open page all are Closed, which is not correct.
-fn find_open_page(table: [PageState; MAX_PAGES], g: Geometry) -> Chosen
+fn find_open_page(table: [PageState; MAX_PAGES], g: Geometry) -> Result<Page, Corrupted>
     requires { Good g }
     ensures { Sees g (λ im. Table g im table) gives (chosen_as result) (λ im. open_from g im (first g im Closed (all_pages g))) }
 {
-    let first_closed = find_first_page(table, g, Page(0), PageState::Closed);
-    match first_closed {
-        Sought::Failed => Chosen::Corrupted,
-        Sought::At(anchor) => {
-            let first_open = find_first_page(table, g, anchor, PageState::Open);
-            found_or(first_open, Chosen::Corrupted)
-        }
-        Sought::Missing => Chosen::At(Page(0)),
-    }
+    let Some(anchor) = find_first_page(table, g, Page(0), PageState::Closed)? else {
+        return Ok(Page(0));
+    };
+    find_first_page(table, g, anchor, PageState::Open)?.ok_or(Corrupted)
 }
 
 // The table is that of the search for the youngest page, and is read further from there.
-pub fn find_oldest_page(image: &[u8], table: [PageState; MAX_PAGES], g: Geometry) -> Chosen
+#[tactic(auto, unfolding(paper::specs::Pages::oldest))]
+pub fn find_oldest_page(
+    image: &[u8],
+    table: [PageState; MAX_PAGES],
+    g: Geometry,
+) -> Result<Page, Corrupted>
     requires { Within g (length image.now) × Covers g image.now table PartialOpen (all_pages g) }
     ensures { (chosen_as result ≡ oldest g image.now) × ((p : ℕ) → chosen_as result ≡ gives p → p < g.pages) }
 {
-    let youngest_page = find_youngest_page(table, g);
-    match youngest_page {
-        Chosen::Corrupted => Chosen::Corrupted,
-        Chosen::At(y) => {
-            let further = states_behind(image, g, table, y);
-            let oldest_closed = find_first_page(further, g, y, PageState::Closed);
-            found_or(oldest_closed, Chosen::At(y))
-        }
-    }
-}
-
-// The page that was found; where there was none, the other: the Rust's unwrap_or.
-fn found_or(s: Sought, other: Chosen) -> Chosen
-    ensures { chosen_as result ≡ found_or (sought_as s) (chosen_as other) }
-{
-    match s {
-        Sought::Failed => Chosen::Corrupted,
-        Sought::At(p) => Chosen::At(p),
-        Sought::Missing => other,
-    }
+    let y = find_youngest_page(table, g)?;
+    let further = states_behind(image, g, table, y);
+    let closed = find_first_page(further, g, y, PageState::Closed)?;
+    Ok(closed.unwrap_or(y))
 }

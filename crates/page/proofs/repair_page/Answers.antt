@@ -1,15 +1,16 @@
 -- `page::repair_page` meets its contract. A Corrupted page is erased, and any other is passed. Assumes nothing.
-use Rattle.std.proofs.Common.{sym}
+use Rattle.paper.specs.declared.PageState.TheVariants.{Corrupted}
 use Rattle.chip.proofs.Running.{did_none}
 use Rattle.page.proofs.Repairs.{repairs_page, repairs_pass}
+use Rattle.page.proofs.States.{told}
 use Rattle.page.proofs.repair_page.Goals as goal
 
-pub returns-then-is_same : goal.returns-then-is_same
-returns-then-is_same c =
+pub returns-then-eq : goal.returns-then-eq
+returns-then-eq c =
     let a = c.args in
-    rw (repairs_page a.g a.image.now a.p.0 _ c.get_page_state-current.ensures (sym c.if-is_same.ensures)) c.open_page.ensures
+    rw (repairs_page a.g a.image.now a.p.0 _ c.get_page_state-current.ensures (told _ Corrupted c.if-eq.ensures)) c.open_page.ensures
 
 pub returns : goal.returns
 returns c =
     let a = c.args in
-    rw (repairs_pass a.g a.image.now a.p.0 _ c.get_page_state-current.ensures (sym c.if-is_same.ensures)) (did_none a.g a.b a.image.now)
+    rw (repairs_pass a.g a.image.now a.p.0 _ c.get_page_state-current.ensures (told _ Corrupted c.if-eq.ensures)) (did_none a.g a.budget.now a.image.now)

@@ -2,18 +2,13 @@
 -- the repair of the start. Assumes nothing.
 use Rattle.std.proofs.Common.{◌≡◌, List, ℕ, ◌-◌, ◌≤◌, ◌<◌, length}
 use Rattle.paper.specs.Pages.{state, around, repairs, repair}
-use Rattle.chip.specs.declared.Spent.{Spent}
-use Rattle.chip.specs.Run.{Did}
+use Rattle.chip.specs.Run.{Spent, Did}
 use Rattle.page.proofs.try_general_repair.Given as goal
 
 abbrev pub invariant-loop-p : goal.invariant-loop-p
 invariant-loop-p l = record {
-  same_length : length l.image ≡ length l.initial.image;
-  in_ring : l.p ≤ l.g.pages;
-  same_states : (q : ℕ) → l.p ≤ q → q < l.g.pages → state l.g l.image q ≡ state l.g l.initial.image q;
-  completes : (o : List ℕ) (r : Spent) → Did l.g l.budget (repairs l.g l.initial.image (around l.g (l.g.pages - l.p) l.p)) l.image o r
-      → Did l.g l.initial.budget (repair l.g l.initial.image) l.initial.image o r;
+  same_length : length l.image ≡ length l.fn.image;
+  same_states : (q : ℕ) → l.p ≤ q → q < l.g.pages → state l.g l.image q ≡ state l.g l.fn.image q;
+  completes : (o : List ℕ) (r : Spent) → Did l.g l.budget (repairs l.g l.fn.image (around l.g (l.g.pages - l.p) l.p)) l.image o r
+      → Did l.g l.fn.budget (repair l.g l.fn.image) l.fn.image o r;
 }
-
-abbrev pub decreases-loop-p : goal.decreases-loop-p
-decreases-loop-p l = l.g.pages - l.p
