@@ -1,4 +1,4 @@
--- `push::push` meets its contract. A slip that is too big is refused, and any other goes to `push_inner`. Assumes nothing.
+-- What `push::push` ensures where a slip is too big. Assumes nothing.
 use Rattle.std.proofs.Common.{refl, sym}
 use Rattle.paper.specs.Push.{push}
 use Rattle.chip.proofs.Binding.{ran_none}
@@ -9,8 +9,4 @@ pub returns-then-is_too_big : goal.returns-then-is_too_big
 unfolding push
 returns-then-is_too_big c =
     let a = c.args in
-    rw (sym c.if-is_too_big.ensures) (under_done a.b _ (ran_none a.g a.b a.image.now _) refl)
-
-pub returns : goal.returns
-unfolding push
-returns c = rw (sym c.if-is_too_big.ensures) c.push_inner.ensures
+    rw (sym c.if-is_too_big.ensures) (under_done a.budget _ (ran_none a.g a.budget a.image.now _) refl)

@@ -1,61 +1,45 @@
 -- `push::spot_for` meets its contract. The step's run, and where it failed the runs of the repair and of the step once more. Assumes nothing.
-use Rattle.std.proofs.Common.{ap}
-use Rattle.paper.specs.Push.{full, spot_step, spot_for}
+use Rattle.std.proofs.Common.{◌≡◌, refl, Err}
+use Rattle.paper.specs.Push.{spot_step, spot_for}
+use Rattle.chip.specs.declared.Failure.TheVariants as failure
 use Rattle.chip.proofs.Repairing.{repair_cut, repair_gives, repair_stops, repair_again}
-use Rattle.push.specs.Trying.{tried_as}
+use Rattle.chip.proofs.Early.{handed}
 use Rattle.push.proofs.spot_for.Goals as goal
 
-pub returns-then-spent : goal.returns-then-spent
+pub returns-in-Ok : goal.returns-in-Ok
 unfolding spot_for
-returns-then-spent c =
+returns-in-Ok c =
     let a = c.args in
-    let s = c.spot_step-first.ensures in
-    record {
-      ran = repair_cut (spot_step a.g a.n a.over) tt s.ran _ c.if-spent.true;
-      holds = s.holds;
-    }
+    let e = c.in-Ok.is in
+    let s = rw e at c.spot_step-spot.ensures in
+    rw e (record { ran = repair_gives (spot_step a.g a.n a.over) tt s.ran _ refl refl; holds = s.holds })
 
-pub returns-in-Full : goal.returns-in-Full
+pub returns-in-Err-Cut : goal.returns-in-Err-Cut
 unfolding spot_for
-returns-in-Full c =
+returns-in-Err-Cut c =
     let a = c.args in
-    let s = c.spot_step-first.ensures in
-    let e = c.in-Full.is in
-    record {
-      ran = (rw e (repair_gives (spot_step a.g a.n a.over) tt s.ran full (ap tried_as e) c.if-spent.false));
-      holds = s.holds;
-    }
+    let e : c.spot_step-spot.result ≡ Err failure.Cut = cc (c.in-Err-Cut.is, rw c.in-Err-Cut.is at c.in-Err-Cut.field-0-is) in
+    let s = rw e at c.spot_step-spot.ensures in
+    rw e (record { ran = repair_cut (spot_step a.g a.n a.over) tt s.ran _ refl; holds = s.holds })
 
-pub returns-in-At : goal.returns-in-At
+pub returns-in_err-try_general_repair-in-Err-Corrupted : goal.returns-in_err-try_general_repair-in-Err-Corrupted
 unfolding spot_for
-returns-in-At c =
+returns-in_err-try_general_repair-in-Err-Corrupted c =
     let a = c.args in
-    let s = c.spot_step-first.ensures in
-    let e = c.in-At.is in
-    record {
-      ran = (rw e (repair_gives (spot_step a.g a.n a.over) tt s.ran _ (ap tried_as e) c.if-spent.false));
-      holds = s.holds;
-    }
+    let e : c.spot_step-spot.result ≡ Err failure.Corrupted = cc (c.in-Err-Corrupted.is, rw c.in-Err-Corrupted.is at c.in-Err-Corrupted.field-0-is) in
+    let s = rw e at c.spot_step-spot.ensures in
+    rw (handed _ failure.Cut c.from_residual.ensures.1)
+    (record { ran = repair_stops (spot_step a.g a.n a.over) tt s.ran tt refl refl c.in_err-try_general_repair-in-Err-Corrupted.ensures _ refl; holds = tt })
 
-pub returns-then-r : goal.returns-then-r
+pub returns-in_ok-try_general_repair-in-Err-Corrupted : goal.returns-in_ok-try_general_repair-in-Err-Corrupted
 unfolding spot_for
-returns-then-r c =
+returns-in_ok-try_general_repair-in-Err-Corrupted c =
     let a = c.args in
-    let s = c.spot_step-first.ensures.ran in
-    let e = ap tried_as c.in-Fails.is in
-    record {
-      ran = repair_stops (spot_step a.g a.n a.over) tt s tt e c.if-spent.false c.try_general_repair-r.ensures _ c.if-r.true;
-      holds = λ z. tt;
-    }
-
-pub returns-else-r : goal.returns-else-r
-unfolding spot_for
-returns-else-r c =
-    let a = c.args in
-    let s = c.spot_step-first.ensures.ran in
-    let e = ap tried_as c.in-Fails.is in
+    let e : c.spot_step-spot.result ≡ Err failure.Corrupted = cc (c.in-Err-Corrupted.is, rw c.in-Err-Corrupted.is at c.in-Err-Corrupted.field-0-is) in
+    let s = rw e at c.spot_step-spot.ensures in
     let t = c.spot_step.ensures in
     record {
-      ran = repair_again (spot_step a.g a.n a.over) tt s tt e c.if-spent.false c.try_general_repair-r.ensures c.if-r.false t.ran;
+      ran =
+          repair_again (spot_step a.g a.n a.over) tt s.ran tt refl refl c.in_ok-try_general_repair-in-Err-Corrupted.ensures refl t.ran;
       holds = t.holds;
     }

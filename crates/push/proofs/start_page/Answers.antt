@@ -1,9 +1,11 @@
 -- `push::start_page` meets its contract. Two marks in a row. Assumes nothing.
-use Rattle.chip.proofs.Running.{did_then, did_cut}
+use Rattle.std.proofs.Common.{refl}
+use Rattle.chip.proofs.Running.{did_then}
+use Rattle.chip.proofs.Early.{did_ends}
 use Rattle.push.proofs.start_page.Goals as goal
 
-pub returns-then-r : goal.returns-then-r
-returns-then-r c = did_cut c.close_page-r.ensures _ c.if-r.true
+pub returns-in_err-close_page : goal.returns-in_err-close_page
+returns-in_err-close_page c = did_ends _ c.from_residual.ensures.0 c.in_err-close_page.ensures _
 
 pub returns : goal.returns
-returns c = did_then c.close_page-r.ensures c.if-r.false c.mark_start.ensures
+returns c = did_then c.in_ok-close_page.ensures refl c.mark_start.ensures
