@@ -1,58 +1,52 @@
--- A pop copies nothing after the search, and stores nothing where that was cut or no item was found. Assumes nothing.
+-- A search that ended early refuses the call, and nothing more is stored; an item that was found is popped by stores that copy nothing. Assumes nothing.
 use mathlib.Core.Path.{◌≡◌, refl}
-use mathlib.Core.Bool.{Bool, true, false}
 use mathlib.Core.List.{List, []}
 use Prim.Native.Nat.{ℕ}
+use Rattle.std.proofs.Common.{false, Err}
 use Rattle.paper.specs.declared.Geometry.{Geometry}
-use Rattle.paper.specs.Chip.{Plan, plan, bind}
+use Rattle.paper.specs.Chip.{Event, Plan, plan, bind}
+use Rattle.paper.specs.Scan.{Head}
 use Rattle.paper.specs.Slip.{encode}
-use Rattle.paper.specs.Refusals.{Answer}
-use Rattle.paper.specs.Search.{Outcome, nothing, short, this, spoilt, shown_by, popped}
+use Rattle.paper.specs.Refusals.{Answer, shown, refused}
+use Rattle.paper.specs.Search.{Outcome, this, spoilt, shown_by, popped}
 use Rattle.chip.specs.declared.Budget.{Budget}
-use Rattle.chip.specs.Run.{Showed, WholeShown, under, unless_cut}
-use Rattle.chip.proofs.Quiet.{copy_count, acted_quiet, writes_quiet}
-use Rattle.chip.proofs.Binding.{showed_plan, showed_bind_cut, showed_bind_then}
-use Rattle.chip.proofs.Limiting.{showed_under}
-use Rattle.item.specs.declared.Item.{Item}
-use Rattle.search.specs.declared.Found.{Found}
-use Rattle.search.specs.declared.Found.TheVariants as found
-use Rattle.search.specs.declared.Searched.{Searched}
-use Rattle.search.specs.Meanings.{found_as}
-use Rattle.peek.specs.Shows.{Pops}
-
-pub popped_quiet : (g : Geometry) (x : Outcome) → copy_count (popped g x) ≡ 0
-unfolding copy_count
-popped_quiet g nothing = refl
-popped_quiet g (short n) = refl
-popped_quiet g (this h) = writes_quiet g h.place (encode g 0 h.len)
-popped_quiet g spoilt = refl
+use Rattle.chip.specs.Run.{Spent, Did, Showed, WholeShown, under}
+use Rattle.chip.proofs.Quiet.{acted_quiet, writes_quiet}
+use Rattle.chip.proofs.Binding.{showed_none, showed_plan, showed_bind_cut, showed_bind_then}
+use Rattle.chip.proofs.Limiting.{showed_under_cut, showed_under_done}
+use Rattle.search.specs.declared.Ended.{Ended}
+use Rattle.search.specs.declared.Ended.TheVariants as ended
+use Rattle.search.specs.Meanings.{found_as, refusal_by}
+use Rattle.search.specs.Searching.{stopped}
 
 -- where no item was found, none is popped
-pub pops_nothing : (g : Geometry) (im : List ℕ) (f : Found) → ((x : Item) → f ≡ found.Present x → ⊥) → popped g (found_as g im f) ≡ []
-pops_nothing g im found.Nothing n = refl
-pops_nothing g im (found.TooSmall k) n = refl
-pops_nothing g im (found.Present x) n = absurd (n x refl)
-pops_nothing g im found.Corrupted n = refl
+pub pops_nothing : (g : Geometry) (im : List ℕ) (f : Ended) → popped g (found_as g im (Err f)) ≡ []
+pops_nothing g im (ended.TooSmall n) = refl
+pops_nothing g im ended.Corrupted = refl
+pops_nothing g im ended.Cut = refl
 
--- ---- the search, and then the pop of what it found
+-- what a call does that makes these stores for what its search came to
+abbrev pub storing : (Outcome → List Event) → Outcome → List ℕ → Plan Answer
+storing stores x im = plan (stores x) (shown_by x)
 
-abbrev then_popped : Geometry → List ℕ → Plan Outcome → Plan Answer
-then_popped g i p = bind g i p (λ x im. plan (popped g x) (shown_by x))
+module _ {g : Geometry} {b : Budget} {p : Plan Outcome} {i o d e : List ℕ} (stores : Outcome → List Event) (c : Budget) where
+  -- nothing is stored after the search
+  pub stores_nothing : {x : Outcome} → stores x ≡ [] → Showed g b p i o d e (record { cut = false; budget = c }) x
+      → WholeShown g (under b (bind g i p (storing stores))) i o d e (shown_by x)
+  stores_nothing {x} q h =
+      let k : Showed g c (storing stores x o) o o e e (record { cut = false; budget = c }) (shown_by x) = rw q (showed_none g c o (shown_by x) e) in
+      showed_under_done b _ (showed_bind_then (storing stores) h refl k) refl
 
--- what is answered on it, where the image m was left by the search
-abbrev answered : Geometry → List ℕ → Searched → Answer
-answered g m r = unless_cut r.spent (shown_by (found_as g m r.found))
+  pub refused_by : (f : Ended) → stores (found_as g o (Err f)) ≡ [] → Showed g b p i o d e (stopped f c) (found_as g o (Err f))
+      → WholeShown g (under b (bind g i p (storing stores))) i o d e (refused (refusal_by f))
+  refused_by (ended.TooSmall n) q h = stores_nothing q h
+  refused_by ended.Corrupted q h = stores_nothing q h
+  refused_by ended.Cut q h = showed_under_cut b _ (showed_bind_cut (storing stores) h (shown_by spoilt) refl) refl
 
-module _ {g : Geometry} (b : Budget) {p : Plan Outcome} {i m o d e : List ℕ} {s r : Searched} where
-  pub search_popped : Showed g b p i m d e s.spent (found_as g m s.found) → Pops g s m o r
-      → WholeShown g (under b (then_popped g i p)) i o d e (answered g m r)
-  search_popped h q = by s.spent.cut refl
-    where
-      f : Outcome
-      f = found_as g m s.found
+-- ---- an item was found
 
-      by : (c : Bool) → s.spent.cut ≡ c → WholeShown g (under b (then_popped g i p)) i o d e (answered g m r)
-      by true t = rw ((q.cut t).0, (q.cut t).1) (showed_under b _ (showed_bind_cut _ h (shown_by f) t))
-      by false t =
-          let k = acted_quiet e (popped_quiet g f) (q.done t).0 in
-          rw (q.done t).1 (showed_under b _ (showed_bind_then _ h t (showed_plan (shown_by f) k)))
+pub pops : {g : Geometry} {b c : Budget} {p : Plan Outcome} {i m o d e : List ℕ} {h : Head} {r : Spent}
+    → Showed g b p i m d e (record { cut = false; budget = c }) (this h) → Did g c (popped g (this h)) m o r
+    → Showed g b (bind g i p (storing (popped g))) i o d e r (shown h.len)
+pops {g} {e = e} {h} f k =
+    showed_bind_then (storing (popped g)) f refl (showed_plan (shown h.len) (acted_quiet e (writes_quiet g h.place (encode g 0 h.len)) k))

@@ -1,9 +1,9 @@
 -- Leaving a page, by the tests that the code makes. Assumes nothing.
 use mathlib.Core.Path.{◌≡◌, ap, ◌∙◌}
-use mathlib.Core.Bool.{Bool, true, false, cond}
+use mathlib.Core.Bool.{Bool, true, false, cond, true≢false}
 use mathlib.Core.List.{List, []}
 use Prim.Native.Nat.{ℕ}
-use borrow.Author.Tests.{eq-eqb, ne_eqb}
+use lib.Dec.{eqb}
 use Rattle.paper.specs.declared.Geometry.{Geometry}
 use Rattle.paper.specs.declared.PageState.{PageState}
 use Rattle.paper.specs.declared.PageState.TheVariants.{Open, Corrupted}
@@ -11,7 +11,6 @@ use Rattle.paper.specs.Chip.{data_start, erase_page, plan, fails, gives}
 use Rattle.paper.specs.Pages.{state, same, next}
 use Rattle.paper.specs.Search.{from_address, after_page, nothing}
 use Rattle.chip.specs.declared.Budget.{Budget}
-use Rattle.chip.specs.declared.Spent.{Spent}
 use Rattle.chip.specs.Run.{Did}
 use Rattle.chip.proofs.Quiet.{acted_quiet, erase_quiet}
 use Rattle.chip.proofs.Binding.{showed_none, showed_plan}
@@ -38,19 +37,24 @@ module _ (g : Geometry) (b : Budget) (im : List ℕ) (old : ℕ) (clears : Bool)
     leave_open e d = rw (← there, sound, e) (showed_none g b im _ d)
 
     module _ (used : same s Open ≡ false) where
-      pub leave_round : x ≡ old → Keeps (ends (gives (record { stand = after_page p; outcome = nothing })))
+      pub leave_round : eqb x old ≡ true → Keeps (ends (gives (record { stand = after_page p; outcome = nothing })))
       unfolding leave_turn
-      leave_round e d = rw (← there, sound, used, ← follows, eq-eqb x old e) (showed_none g b im _ d)
+      leave_round e d = rw (← there, sound, used, ← follows, e) (showed_none g b im _ d)
 
-      -- the search goes on at address a
-      module _ (apart : x ≡ old → ⊥) {a : ℕ} (starts : a ≡ data_start g x) where
-        goes_on_lem : leave_turn g old clears p im ≡ plan (cond clears (erase_page g p) []) (goes (from_address a))
+      -- the search goes on with the page that follows
+      module _ (apart : eqb x old ≡ false) where
+        goes_on_lem : leave_turn g old clears p im ≡ plan (cond clears (erase_page g p) []) (goes (from_address (data_start g x)))
         unfolding leave_turn
-        goes_on_lem = rw (← there, sound, used, ← follows, ne_eqb x old apart, ← starts)
+        goes_on_lem = rw (← there, sound, used, ← follows, apart)
 
-        pub leave_kept : clears ≡ false → Keeps (goes (from_address a))
+        pub leave_kept : clears ≡ false → Keeps (goes (from_address (data_start g x)))
         leave_kept e d = rw (goes_on_lem, e) (showed_none g b im _ d)
 
-        pub leave_erased : clears ≡ true → {o : List ℕ} {r : Spent} → Did g b (erase_page g p) im o r
-            → Stored g b (leave_turn g old clears p im) im o r (goes (from_address a))
-        leave_erased e k d = rw (goes_on_lem, e) (showed_plan (goes (from_address a)) (acted_quiet d (erase_quiet g p) k))
+        module _ (e : clears ≡ true) {o : List ℕ} {c : Budget} where
+          pub leave_erased : Did g b (erase_page g p) im o (record { cut = false; budget = c })
+              → Stored g b (leave_turn g old clears p im) im o (record { cut = false; budget = c }) (goes (from_address (data_start g x)))
+          leave_erased k d = rw (goes_on_lem, e) (showed_plan (goes (from_address (data_start g x))) (acted_quiet d (erase_quiet g p) k))
+
+          pub leave_cut : Did g b (erase_page g p) im o (record { cut = true; budget = c }) → (y : Going)
+              → Stored g b (leave_turn g old clears p im) im o (record { cut = true; budget = c }) y
+          leave_cut k y d = rw (goes_on_lem, e) (record { acted = acted_quiet d (erase_quiet g p) k; says = λ f. absurd (true≢false f) })

@@ -1,15 +1,15 @@
 -- The paper's reading of headers, by the turns of the loop that reads live items. Assumes nothing.
 use mathlib.Core.Path.{◌≡◌, refl, sym, ap, ◌∙◌}
-use mathlib.Core.Bool.{Bool, true, false, cond, not, ◌&&◌}
-use mathlib.Core.List.{List, [], ◌∷◌}
-use Prim.Native.Nat.{ℕ, ◌+◌, ◌<◌}
+use mathlib.Core.Bool.{true, false}
+use mathlib.Core.List.{List, []}
+use Prim.Native.Nat.{ℕ, ◌<◌}
 use native.Mathlib.Omega.{arith}
-use borrow.Author.Tests.{lt-leb, ltb-true}
-use lib.Dec.{leb, ltb}
 use lib.ListN.{length}
+use Rattle.std.specs.Prelude.{Result, Ok, Err}
+use Rattle.std.proofs.lemmas.Bool.Decides.{nat_tests}
 use Rattle.paper.specs.declared.Geometry.{Geometry}
-use Rattle.paper.specs.Chip.{copy, round_up, header_size, data_end, page_of, store_count, Plan}
-use Rattle.paper.specs.Scan.{Head, walk_on, live, present}
+use Rattle.paper.specs.Chip.{round_up, data_end, page_of, store_count, Plan}
+use Rattle.paper.specs.Scan.{Head, walk_on, live}
 use Rattle.paper.specs.Search.{item_end, Met, passed, long, met, read_heads}
 use Rattle.chip.specs.declared.Budget.{Budget}
 use Rattle.chip.specs.Within.{address_limit}
@@ -19,6 +19,7 @@ use Rattle.chip.proofs.Binding.{showed_none, showed_plan, showed_and_then, showe
 use Rattle.item.specs.declared.Item.{Item}
 use Rattle.item.specs.declared.MaybeItem.{MaybeItem}
 use Rattle.item.specs.declared.MaybeItem.TheVariants as maybe
+use Rattle.item.specs.declared.TooSmall.{TooSmall}
 use Rattle.item.specs.Places.{after, Inside}
 use Rattle.item.specs.Reading.{item_of, copies, read_as, ReadIs}
 use Rattle.item.specs.Scanning.{walk_from, lives, Reaches}
@@ -32,35 +33,17 @@ use Rattle.search.specs.Searching.{Copied}
 -- reading it stores nothing
 copies_free : (g : Geometry) (n : ℕ) (h : Head) → store_count (copies g n h) ≡ 0
 unfolding copies store_count
-copies_free g n h = by (live h && leb (round_up g.word h.len) n)
-  where
-    by : (t : Bool) → store_count (cond t (copy (h.place + header_size g) (round_up g.word h.len) ∷ []) []) ≡ 0
-    by true = refl
-    by false = refl
+copies_free g n h = grind (arith, nat_tests)
 
 -- a live one is not read as popped
-never_popped : (n : ℕ) (h : Head) (x y : Item) → live h ≡ true → read_as n h x ≡ maybe.Erased y → ⊥
+never_popped : (n : ℕ) (h : Head) (x y : Item) → live h ≡ true → read_as n h x ≡ Ok (maybe.Erased y) → ⊥
 unfolding read_as
-never_popped n h x y l e = by (ltb n x.size) (present h) (rw l at e)
-  where
-    by : (s t : Bool) → cond s (maybe.TooSmall x.size) (cond t (maybe.Present x) (maybe.Corrupted x)) ≡ maybe.Erased y → ⊥
-    by true t q = let z : ◌≡◌ {A = ℕ} 0 1 = cc in omega arith
-    by false true q = let z : ◌≡◌ {A = ℕ} 0 1 = cc in omega arith
-    by false false q = let z : ◌≡◌ {A = ℕ} 0 1 = cc in omega arith
+never_popped n h x y l e = grind (arith, nat_tests)
 
 -- one that is too long for the buffer is not copied
-small_copies : (g : Geometry) (n : ℕ) (h : Head) (x : Item) (k : ℕ) → x.size ≡ round_up g.word h.len → read_as n h x ≡ maybe.TooSmall k → copies g n h ≡ []
+small_copies : (g : Geometry) (n : ℕ) (h : Head) (x : Item) (k : TooSmall) → x.size ≡ round_up g.word h.len → read_as n h x ≡ Err k → copies g n h ≡ []
 unfolding read_as copies
-small_copies g n h x k e q = by (live h) (ltb n x.size) (present h) refl q
-  where
-    by : (s t u : Bool) → ltb n x.size ≡ t
-        → cond (not s) (maybe.Erased x) (cond t (maybe.TooSmall x.size) (cond u (maybe.Present x) (maybe.Corrupted x)))
-        ≡ maybe.TooSmall k
-        → cond (s && leb (round_up g.word h.len) n) (copy (h.place + header_size g) (round_up g.word h.len) ∷ []) [] ≡ []
-    by false t u l f = refl
-    by true true u l f = rw (← e, lt-leb x.size n (ltb-true n x.size l))
-    by true false true l f = let z : ◌≡◌ {A = ℕ} 0 1 = cc in absurd (omega arith)
-    by true false false l f = let z : ◌≡◌ {A = ℕ} 0 1 = cc in absurd (omega arith)
+small_copies g n h x k e q = grind (arith, nat_tests)
 
 -- ---- the live items from address a on, in data that ends at end, read to buffers of n bytes
 
@@ -85,12 +68,13 @@ module _ (g : Geometry) (im : List ℕ) (end n : ℕ) where
   first_in i top r = record { good = i.good; fits = omega (arith, r.fits, i.ends); top = omega (arith, r.fits) }
 
   -- item x is the first of them; reading it took the buffer from d to e and answered m
-  module _ (a : ℕ) (x : Item) (first : Reaches g im end a x) (d e : List ℕ) (size : length d ≡ n) (m : MaybeItem)
+  module _ (a : ℕ) (x : Item) (first : Reaches g im end a x) (d e : List ℕ) (size : length d ≡ n) (m : Result MaybeItem TooSmall)
       (read : ReadIs g im x.address x.header d e m) where
     answered : m ≡ read_as n (head_of g im x) (item_of g x.address x.header)
     answered = rw size at read.answer
 
-    first_read : (m₁ : MaybeItem) → m ≡ m₁ → reading g im end n a ≡ read_on g n a (head_of g im x) (lives (walk_from g im end (behind g x)).heads) im m₁
+    first_read : (m₁ : Result MaybeItem TooSmall) → m ≡ m₁
+        → reading g im end n a ≡ read_on g n a (head_of g im x) (lives (walk_from g im end (behind g x)).heads) im m₁
     first_read m₁ q =
         by_lives a _ first.first ∙ read_on_lem g n (head_of g im x) a _ im (item_of g x.address x.header) refl
         ∙ ap (read_on g n a (head_of g im x) (lives (walk_from g im end (behind g x)).heads) im) (sym answered ∙ q)
@@ -98,16 +82,18 @@ module _ (g : Geometry) (im : List ℕ) (end n : ℕ) where
     copied : (b : Budget) → Acted g b (copies g n (head_of g im x)) im im d e (record { cut = false; budget = b })
     copied b = rw (← size) (acted_copies g b (copies g (length d) (head_of g im x)) im d e (copies_free g (length d) (head_of g im x)) read.buffer)
 
-    pub not_popped : (y : Item) → m ≡ maybe.Erased y → ⊥
+    pub not_popped : (y : Item) → m ≡ Ok (maybe.Erased y) → ⊥
     not_popped y q = never_popped n (head_of g im x) _ y first.alive (sym answered ∙ q)
 
-    pub small_read : (k : ℕ) → m ≡ maybe.TooSmall k → Copied g (reading g im end n a) im d e (long a k)
-    small_read k q b = rw (first_read _ q) (showed_plan (long a k) (rw (small_copies g n (head_of g im x) _ k refl (sym answered ∙ q)) at (copied b)))
+    pub small_read : (k : TooSmall) → m ≡ Err k → Copied g (reading g im end n a) im d e (long a k.0)
+    small_read k q b =
+        let none = small_copies g n (head_of g im x) _ k refl (sym answered ∙ q) in
+        rw (first_read _ q) (showed_plan (long a k.0) (rw none at (copied b)))
 
-    pub present_read : (y : Item) → m ≡ maybe.Present y → Copied g (reading g im end n a) im d e (met (head_of g im x))
+    pub present_read : (y : Item) → m ≡ Ok (maybe.Present y) → Copied g (reading g im end n a) im d e (met (head_of g im x))
     present_read y q b = rw (first_read _ q) (showed_plan (met (head_of g im x)) (copied b))
 
-    pub torn_read : (y : Item) → m ≡ maybe.Corrupted y → {f : List ℕ} {r : Met} → Copied g (reading g im end n (behind g x)) im e f r
+    pub torn_read : (y : Item) → m ≡ Ok (maybe.Corrupted y) → {f : List ℕ} {r : Met} → Copied g (reading g im end n (behind g x)) im e f r
         → Copied g (reading g im end n a) im d f r
     unfolding item_end
     torn_read y q v b =

@@ -2,8 +2,7 @@
 use mathlib.Core.Path.{◌≡◌, refl, sym, ap, ◌∙◌}
 use mathlib.Core.Bool.{Bool, true, false, cond, ◌||◌}
 use mathlib.Core.List.{List, []}
-use Prim.Native.Nat.{ℕ, suc, ◌-◌, ◌<◌}
-use native.Mathlib.Omega.{arith}
+use Prim.Native.Nat.{ℕ, suc}
 use lib.Dec.{eqb}
 use lib.ListN.{length}
 use Rattle.paper.specs.declared.Geometry.{Geometry}
@@ -13,8 +12,7 @@ use Rattle.paper.specs.Scan.{walk_on}
 use Rattle.paper.specs.Pages.{state, same, next}
 use Rattle.paper.specs.Search.{Met, passed, long, met, read_heads, Stand, from_address, after_page, nothing, Ended, ends_at, on_met, read_page, leave_page, next_item}
 use Rattle.chip.specs.declared.Budget.{Budget}
-use Rattle.chip.specs.declared.Spent.{Spent}
-use Rattle.chip.specs.Run.{Showed}
+use Rattle.chip.specs.Run.{Spent, Showed}
 use Rattle.chip.proofs.Binding.{showed_none, showed_bind_cut, showed_bind_then, bind_turned, showed_kept}
 use Rattle.search.specs.Turns.{Going, goes, ends, after_items, read_turn, leave_turn, turn_from, on_going}
 
@@ -62,23 +60,23 @@ pub turns_over : (g : Geometry) (b : Budget) (n old : ℕ) (clears : Bool) (s : 
 unfolding next_item
 turns_over g b n old clears s im d = showed_none g b im (gives (record { stand = s; outcome = nothing })) d
 
--- of k turns the first is taken, on a buffer of n bytes
+-- of k turns the first is taken, on a buffer of n bytes, and j are left
 module _ {g : Geometry} {b : Budget} (old : ℕ) (clears : Bool) (s : Stand) {i o d e : List ℕ} {r : Spent} {x : Going}
-    (h : Showed g b (turn_from g (length d) old clears s i) i o d e r x) (n k : ℕ) (some : 0 < k) (size : length d ≡ n) where
-  whole : next_item g n old clears k s i ≡ bind g i (turn_from g (length d) old clears s i) (on_going (next_item g n old clears (k - 1)))
-  whole =
-      let z : k ≡ suc (k - 1) = omega arith in
-      ap (λ (j : ℕ). next_item g n old clears j s i) z ∙ next_turn g n old clears (k - 1) s i
-      ∙ ap (λ (l : ℕ). bind g i (turn_from g l old clears s i) (on_going (next_item g n old clears (k - 1)))) (sym size)
+    (h : Showed g b (turn_from g (length d) old clears s i) i o d e r x) (n : ℕ) {k : ℕ} (j : ℕ) (one : k ≡ suc j) (size : length d ≡ n) where
+  whole : next_item g n old clears k s i ≡ bind g i (turn_from g (length d) old clears s i) (on_going (next_item g n old clears j))
+  whole = rw (one, size) (next_turn g n old clears j s i)
 
   pub turn_cut : (y : Try Stand Ended) → r.cut ≡ true → Showed g b (next_item g n old clears k s i) i o d e r y
-  turn_cut y t = rw whole (showed_bind_cut (on_going (next_item g n old clears (k - 1))) h y t)
+  turn_cut y t = rw whole (showed_bind_cut (on_going (next_item g n old clears j)) h y t)
 
-  module _ (t : r.cut ≡ false) where
-    pub turn_ends : (y : Try Stand Ended) → x ≡ ends y → Showed g b (next_item g n old clears k s i) i o d e r y
-    turn_ends y q = rw whole (showed_bind_then (on_going (next_item g n old clears (k - 1))) h t (rw q (showed_kept g r o e y t)))
+  pub turn_ends : (y : Try Stand Ended) → x ≡ ends y → Showed g b (next_item g n old clears k s i) i o d e r y
+  turn_ends y q = go r.cut refl
+    where
+      go : (t : Bool) → r.cut ≡ t → Showed g b (next_item g n old clears k s i) i o d e r y
+      go true t = turn_cut y t
+      go false t = rw whole (showed_bind_then (on_going (next_item g n old clears j)) h t (rw q (showed_kept g r o e y t)))
 
-    pub turn_goes : (next : Stand) → x ≡ goes next → {m f : List ℕ} {z : Spent} {y : Try Stand Ended}
-        → Showed g r.budget (next_item g n old clears (k - 1) next o) o m e f z y
-        → Showed g b (next_item g n old clears k s i) i m d f z y
-    turn_goes next q v = rw whole (showed_bind_then (on_going (next_item g n old clears (k - 1))) h t (rw q v))
+  pub turn_goes : r.cut ≡ false → (next : Stand) → x ≡ goes next → {m f : List ℕ} {z : Spent} {y : Try Stand Ended}
+      → Showed g r.budget (next_item g n old clears j next o) o m e f z y
+      → Showed g b (next_item g n old clears k s i) i m d f z y
+  turn_goes t next q v = rw whole (showed_bind_then (on_going (next_item g n old clears j)) h t (rw q v))

@@ -1,10 +1,22 @@
 -- What the functions of the search promise: the run of a plan, and that what the answer names lies in the range. Assumes nothing.
-use Rattle.std.specs.Prelude.{false, List, ℕ, length}
+use Rattle.std.specs.Prelude.{true, false, List, ℕ, length, Result, Ok, Err}
 use Rattle.paper.specs.declared.Geometry.{Geometry}
 use Rattle.paper.specs.Chip.{Plan}
 use Rattle.chip.specs.declared.Budget.{Budget}
-use Rattle.chip.specs.declared.Spent.{Spent}
-use Rattle.chip.specs.Run.{Showed}
+use Rattle.chip.specs.Run.{Spent, Showed}
+use Rattle.search.specs.declared.Ended.{Ended}
+use Rattle.search.specs.declared.Ended.TheVariants as ended
+
+-- what a search spent that ended early, and left the budget b
+abbrev pub stopped : Ended → Budget → Spent
+stopped (ended.TooSmall n) b = record { cut = false; budget = b }
+stopped ended.Corrupted b = record { cut = false; budget = b }
+stopped ended.Cut b = record { cut = true; budget = b }
+
+-- the same of any, by its result
+abbrev pub searched : {X : Type 0} → Result X Ended → Budget → Spent
+searched (Ok x) b = record { cut = false; budget = b }
+searched (Err e) b = stopped e b
 
 -- a plan that only copies: under every budget it leaves the image im, takes the buffer from d to e and answers x
 abbrev pub Copied : {A : Type 0} → Geometry → Plan A → List ℕ → List ℕ → List ℕ → A → Type 0
