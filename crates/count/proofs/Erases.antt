@@ -8,8 +8,7 @@ use Rattle.paper.specs.Chip.{erase_page}
 use Rattle.paper.specs.Pages.{around}
 use Rattle.paper.specs.Calls.{erases}
 use Rattle.chip.specs.declared.Budget.{Budget}
-use Rattle.chip.specs.declared.Spent.{Spent}
-use Rattle.chip.specs.Run.{Did}
+use Rattle.chip.specs.Run.{Spent, Did}
 use Rattle.chip.proofs.Running.{did_then, did_cut}
 use Rattle.page.proofs.Rings.{order_next}
 

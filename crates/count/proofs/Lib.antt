@@ -1,4 +1,3 @@
-pub mod Fits
 pub mod Spaces
 pub mod Retries
 pub mod Erases

@@ -3,17 +3,14 @@ use mathlib.Core.Path.{◌≡◌, refl}
 use mathlib.Core.Bool.{true, false}
 use mathlib.Core.List.{List, []}
 use Prim.Native.Nat.{ℕ}
-use native.Mathlib.Omega.{arith}
 use Rattle.paper.specs.declared.Geometry.{Geometry}
 use Rattle.paper.specs.declared.Refusal.TheVariants as refusal
-use Rattle.paper.specs.Chip.{Plan, plan, Try, fails, gives, on_given, settled, bind, image_after}
-use Rattle.paper.specs.Pages.{repair, all_pages}
-use Rattle.paper.specs.Refusals.{Answer, number, none, refused}
-use Rattle.paper.specs.Steps.{retry, with_repair}
-use Rattle.paper.specs.Counts.{counted, space_of, space, space_left}
+use Rattle.paper.specs.Chip.{Plan, plan, Try, fails, gives, settled}
+use Rattle.paper.specs.Pages.{repair}
+use Rattle.paper.specs.Refusals.{Answer, refused}
+use Rattle.paper.specs.Counts.{counted}
 use Rattle.chip.specs.declared.Budget.{Budget}
-use Rattle.chip.specs.declared.Spent.{Spent}
-use Rattle.chip.specs.Run.{Did, Ran}
+use Rattle.chip.specs.Run.{Spent, Did, Ran}
 use Rattle.chip.proofs.Binding.{ran_none, uncut, bind_cut, bind_then}
 use Rattle.chip.proofs.Repairing.{repair_gives, repair_stops, repair_again}
 
@@ -40,26 +37,9 @@ module _ (g : Geometry) (b : Budget) (im : List ℕ) (count : List ℕ → Try U
     unfolding counted
     count_cut y t = bind_cut next (repair_stops step tt first tt e refl d (fails tt) t) y t
 
-    pub count_again : s.cut ≡ false → Ran g b (counted g im count) im o s (answered (count o))
+    -- t is what the second run came to
+    pub count_again : s.cut ≡ false → (t : Try Unit Answer) → t ≡ count o → Ran g b (counted g im count) im o s (answered t)
     unfolding counted
-    count_again t =
-        let again = repair_again step tt first tt e refl d t (ran_none g s.budget o (count o)) in
-        rw (← uncut s t) (bind_then next again refl (ran_none g s.budget o (answered (count o))))
-
--- ---- space_left has a number, or is refused
-
-space_some : (g : Geometry) (im : List ℕ) → answered (space g im) ≡ none → ⊥
-unfolding space
-space_some g im e = go (space_of g im (all_pages g)) e
-  where
-    go : (t : Try Unit ℕ) → answered (on_given t (λ n. gives (number n))) ≡ none → ⊥
-    go (fails u) e = let z : ◌≡◌ {A = ℕ} 0 1 = cc in omega arith
-    go (gives n) e = let z : ◌≡◌ {A = ℕ} 0 1 = cc in omega arith
-
-pub left_some : (g : Geometry) (im : List ℕ) → (space_left g im).answer ≡ none → ⊥
-unfolding space_left counted with_repair bind retry image_after
-left_some g im e = go (space g im) refl e
-  where
-    go : (t : Try Unit Answer) → space g im ≡ t → answered (retry g (λ u i. plan [] (space g i)) t im).answer ≡ none → ⊥
-    go (gives a) q e = space_some g im (rw q e)
-    go (fails u) q e = space_some g (image_after g (repair g im) im) e
+    count_again u t q =
+        let again = repair_again step tt first tt e refl d u (ran_none g s.budget o (count o)) in
+        rw (q, ← uncut s u) (bind_then next again refl (ran_none g s.budget o (answered (count o))))

@@ -1,78 +1,52 @@
 -- The space that is left: what a page adds, and the sum, page by page. Assumes nothing.
-use mathlib.Core.Path.{◌≡◌, refl, sym, ap}
-use mathlib.Core.Bool.{true, false, false≢true}
+use mathlib.Core.Path.{◌≡◌, refl, ap}
+use mathlib.Core.Bool.{true, false, cond}
 use mathlib.Core.List.{List}
 use Prim.Native.Nat.{ℕ, ◌+◌, ◌-◌, ◌≤◌, ◌<◌}
 use native.Mathlib.Omega.{arith}
-use borrow.Author.Tests.{not-true, not-false}
 use lib.ListN.{length}
+use Rattle.std.proofs.lemmas.Bool.Decides.{nat_tests}
+use Rattle.std.specs.Option.{is_some}
 use Rattle.paper.specs.declared.Geometry.{Geometry}
 use Rattle.paper.specs.declared.PageState.{PageState}
 use Rattle.paper.specs.declared.PageState.TheVariants.{Open, PartialOpen, Closed, Corrupted}
 use Rattle.paper.specs.Chip.{Try, fails, gives, on_given, data_size}
-use Rattle.paper.specs.Scan.{page_walk, serves, any_live}
+use Rattle.paper.specs.Scan.{serves}
 use Rattle.paper.specs.Pages.{state, same, around, all_pages}
 use Rattle.paper.specs.Counts.{space_by, space_of}
+use Rattle.chip.specs.Within.{Within}
+use Rattle.chip.proofs.Geometry.{data_in}
 use Rattle.item.specs.declared.Free.{Free}
-use Rattle.item.specs.declared.Available.TheVariants as room
 use Rattle.item.specs.Headers.{available}
 use Rattle.item.specs.Scanning.{PageFree}
-use Rattle.item.proofs.Serving.{serves_yes, serves_none}
 use Rattle.page.proofs.Rings.{order_first, order_next, order_last}
-use Rattle.count.specs.Counts.{empty_by}
+use Rattle.count.specs.Counts.{empty_by, SpaceIs}
 
--- ---- what page p adds, in state s
+-- ---- what page p adds
 
 module _ (g : Geometry) (im : List ℕ) (p : ℕ) where
-  pub space_empty : (s : PageState) → empty_by g im p s ≡ true → space_by g im p s ≡ gives (data_size g)
+  pub space_in : (s : PageState) → same s Corrupted ≡ false
+      → space_by g im p s ≡ cond (empty_by g im p s) (gives (data_size g)) (cond (same s Closed) (gives 0) (space_by g im p PartialOpen))
   unfolding space_by empty_by
-  space_empty Open e = refl
-  space_empty PartialOpen e = absurd (false≢true e)
-  space_empty Closed e = rw (not-true (any_live (page_walk g im p).heads) e)
-  space_empty Corrupted e = absurd (false≢true e)
-
-  pub space_closed : (s : PageState) → empty_by g im p s ≡ false → same s Closed ≡ true → space_by g im p s ≡ gives 0
-  unfolding space_by empty_by
-  space_closed Open e t = absurd (false≢true t)
-  space_closed PartialOpen e t = absurd (false≢true t)
-  space_closed Closed e t = rw (not-false (any_live (page_walk g im p).heads) e)
-  space_closed Corrupted e t = absurd (false≢true t)
-
-  pub space_partial : (s : PageState) → empty_by g im p s ≡ false → same s Closed ≡ false → same s Corrupted ≡ false
-      → space_by g im p s ≡ space_by g im p PartialOpen
-  unfolding empty_by
-  space_partial Open e t n = absurd (false≢true (sym e))
-  space_partial PartialOpen e t n = refl
-  space_partial Closed e t n = absurd (false≢true (sym t))
-  space_partial Corrupted e t n = absurd (false≢true (sym n))
+  space_in Open e = refl
+  space_in PartialOpen e = refl
+  space_in Closed e = grind (arith, nat_tests)
+  space_in Corrupted e = cc
 
   space_fails : (s : PageState) → same s Corrupted ≡ true → space_by g im p s ≡ fails tt
   unfolding space_by
-  space_fails Open t = absurd (false≢true t)
-  space_fails PartialOpen t = absurd (false≢true t)
-  space_fails Closed t = absurd (false≢true t)
-  space_fails Corrupted t = refl
+  space_fails Open e = cc
+  space_fails PartialOpen e = cc
+  space_fails Closed e = cc
+  space_fails Corrupted e = refl
 
 -- a PartialOpen page, whose free spot is r
-module _ {g : Geometry} {im : List ℕ} {p : ℕ} {r : Free} (f : PageFree g im p r) where
-  left_is : ◌≡◌ {A = Try Unit ℕ} (gives (length (page_walk g im p).rest)) (gives r.left)
-  left_is = ap gives (sym f.is.left)
-
-  pub space_served : (k : ℕ) → available g r.left ≡ room.Bytes k → space_by g im p PartialOpen ≡ gives r.left
-  unfolding space_by
-  space_served k e = rw (serves_yes g (page_walk g im p).rest k (rw f.is.left at e) 0 (omega arith)) left_is
-
-  module _ (e : available g r.left ≡ room.Nothing) where
-    no_header : serves g (page_walk g im p).rest 0 ≡ false
-    no_header = serves_none g (page_walk g im p).rest (rw f.is.left at e) 0
-
-    pub space_popped : empty_by g im p Closed ≡ true → space_by g im p PartialOpen ≡ gives (data_size g)
-    unfolding space_by empty_by
-    space_popped t = rw (no_header, not-true (any_live (page_walk g im p).heads) t)
-
-    pub space_live : empty_by g im p Closed ≡ false → space_by g im p PartialOpen ≡ gives r.left
-    unfolding space_by empty_by
-    space_live t = rw (no_header, not-false (any_live (page_walk g im p).heads) t) left_is
+pub space_spot : {g : Geometry} {im : List ℕ} {p n : ℕ} {r : Free} → Within g (length im) → p < g.pages → PageFree g im p r
+    → n ≡ cond (is_some (available g r.left)) r.left (cond (empty_by g im p Closed) (data_size g) r.left) → SpaceIs g im p PartialOpen n
+unfolding space_by empty_by serves available
+space_spot {g} {im} {p} w h f e =
+    let d = data_in g p (length im) w h in
+    record { is = λ q. rw (e, f.is.left) (grind (arith, nat_tests)); small = grind (arith, nat_tests, d, f.is.ends) }
 
 -- ---- the sum
 
@@ -105,3 +79,6 @@ module _ (g : Geometry) (im : List ℕ) where
     pub sum_last : g.pages ≤ p → plus n (space_of g im (around g (g.pages - p) p)) ≡ gives n
     unfolding space_of
     sum_last h = rw (order_last g p h) (ap gives (omega arith))
+
+-- the sum at the loop's start, at a page, at a Corrupted one, and at its end
+pub ruleset sums = (sum_first, sum_next, sum_fails, sum_last)

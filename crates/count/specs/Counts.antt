@@ -1,5 +1,5 @@
 -- What the runs of a count answer, and what a page adds to one. Assumes nothing.
-use Rattle.std.specs.Prelude.{◌≡◌, Bool, true, false, not, List, ℕ, ◌<◌}
+use Rattle.std.specs.Prelude.{◌≡◌, Bool, true, false, not, List, ℕ, ◌<◌, Result, Ok, Err}
 use Rattle.paper.specs.declared.Geometry.{Geometry}
 use Rattle.paper.specs.declared.PageState.{PageState}
 use Rattle.paper.specs.declared.PageState.TheVariants.{Open, PartialOpen, Closed, Corrupted}
@@ -8,27 +8,17 @@ use Rattle.paper.specs.Chip.{Try, fails, gives, settled}
 use Rattle.paper.specs.Scan.{page_walk, any_live}
 use Rattle.paper.specs.Pages.{same}
 use Rattle.paper.specs.Refusals.{Answer, refused}
-use Rattle.paper.specs.Counts.{fit, space, space_by}
+use Rattle.paper.specs.Counts.{space_by}
 use Rattle.chip.specs.Within.{address_limit}
-use Rattle.item.specs.Headers.{available_as}
-use Rattle.count.specs.declared.Count.{Count}
-use Rattle.count.specs.declared.Count.TheVariants as count
-use Rattle.count.specs.declared.Counted.{Counted}
-use Rattle.count.specs.declared.Counted.TheVariants as counted
 
--- the step that each count is
-abbrev pub count_of : Count → Geometry → List ℕ → Try Unit Answer
-count_of count.MaxFit g = fit g
-count_of count.SpaceLeft g = space g
-
--- what each case of its answer stands for
-abbrev pub counted_as : Counted → Try Unit Answer
-counted_as counted.Corrupted = fails tt
-counted_as (counted.Given room) = gives (available_as room)
+-- what each case of a count's answer stands for, by what its number does
+abbrev pub counted_as : {N E : Type 0} → (N → Answer) → Result N E → Try Unit Answer
+counted_as answer (Ok n) = gives (answer n)
+counted_as answer (Err e) = fails tt
 
 -- what a count answers that came to that
-abbrev pub answered : Counted → Answer
-answered r = settled (refused refusal.Corrupted) (counted_as r)
+abbrev pub answered : {N E : Type 0} → (N → Answer) → Result N E → Answer
+answered answer r = settled (refused refusal.Corrupted) (counted_as answer r)
 
 -- whether all of page p may be used, by its state and, where that is Closed, by its items
 unfoldable pub empty_by : Geometry → List ℕ → ℕ → PageState → Bool

@@ -2,167 +2,167 @@
 // src/lib.rs, on a checked geometry and under a budget of stores.
 #![tactic(auto)]
 
-ghost use Rattle.std.specs.Prelude.{◌≡◌, false, ◌<◌, length};
+ghost use Rattle.std.specs.Prelude.{◌≡◌, List, ℕ, ◌<◌, length};
+ghost use Rattle.paper.specs.declared.Geometry.{Geometry};
 ghost use Rattle.paper.specs.declared.PageState.TheVariants.{PartialOpen};
-ghost use Rattle.paper.specs.Chip.{data_size, gives};
+ghost use Rattle.paper.specs.Chip.{Try};
 ghost use Rattle.paper.specs.Scan.{page_walk};
 ghost use Rattle.paper.specs.Pages.{state, next};
-ghost use Rattle.paper.specs.Refusals.{number, none, fit_as, space_as, erased_as};
+ghost use Rattle.paper.specs.Refusals.{Answer, number, fit_as, space_as, erased_as};
 ghost use Rattle.paper.specs.Counts.{longest, fit_by, fit, find_max_fit, space, space_left, counted};
 ghost use Rattle.paper.specs.Calls.{erase_all};
 ghost use Rattle.chip.specs.Within.{Good, Within};
-ghost use Rattle.chip.specs.Run.{Ran, Whole, under, unless_cut};
-ghost use Rattle.count.specs.Counts.{count_of, counted_as, answered, empty_by, SpaceIs};
+ghost use Rattle.chip.specs.Run.{spent, Ran, Whole, under};
+ghost use Rattle.item.specs.Headers.{available_as};
+ghost use Rattle.count.specs.Counts.{counted_as, answered, empty_by, SpaceIs};
 
-use chip::{Budget, Page, Spent};
-use item::{Available, ItemHeader};
-use page::Chosen;
-use paper::{Erased, Fit, Geometry, PageState, Refusal, Space};
+use chip::{Budget, Corrupted, Failure, Page};
+use item::ItemHeader;
+use paper::{Geometry, PageState, Refusal};
 
-// The two counts. Neither stores anything; the repair between two runs of one does.
-#[derive(Clone, Copy)]
-enum Count {
-    MaxFit,
-    SpaceLeft,
+// A count of the free space. It stores nothing; the repair between two runs of one does.
+trait Count {
+    type Number;
+
+    // The step that it is in the paper, and what its number stands for.
+    ghost step: { Geometry → List ℕ → Try Unit Answer };
+
+    ghost answer: { Self.Number → Answer };
+
+    fn run(image: &[u8], g: Geometry) -> Result<Self::Number, Corrupted>
+        requires { Within g (length image.now) }
+        ensures { counted_as answer result ≡ step g image.now };
 }
 
-// What a run of a count comes to.
-#[derive(Clone, Copy)]
-enum Counted {
-    Corrupted,
-    Given(Available),
+struct MaxFit;
+
+struct SpaceLeft;
+
+impl Count for MaxFit {
+    type Number = Option<usize>;
+
+    ghost step = { fit };
+
+    ghost answer = { available_as };
+
+    fn run(image: &[u8], g: Geometry) -> Result<Option<usize>, Corrupted> {
+        find_max_fit_inner(image, g)
+    }
 }
 
-// What a count with its repair comes to, and what it spent. Where it was cut, what stands beside `spent` has no say.
-#[derive(Clone, Copy)]
-struct Counting {
-    spent: Spent,
-    counted: Counted,
+impl Count for SpaceLeft {
+    type Number = usize;
+
+    ghost step = { space };
+
+    ghost answer = { number };
+
+    fn run(image: &[u8], g: Geometry) -> Result<usize, Corrupted> {
+        space_left_inner(image, g)
+    }
+}
+
+// The count; where it meets a Corrupted page, once more after a repair. A closure in the trait's place would have to be tied to the paper's step
+// by clauses at each use.
+fn run_with_auto_repair<C: Count>(
+    image: &mut [u8],
+    budget: &mut Budget,
+    g: Geometry,
+) -> Result<C::Number, Failure>
+    requires { Within g (length image.old) }
+    ensures { Ran g budget.old (counted g image.old (C.step g)) image.old image.new (spent result budget.new) (answered C.answer result) }
+{
+    match C::run(&image[..], g) {
+        Ok(number) => Ok(number),
+        Err(_) => {
+            page::try_general_repair(image, budget, g)?;
+            Ok(C::run(&image[..], g)?)
+        }
+    }
 }
 
 // ---- find_max_fit
 
-pub fn find_max_fit(image: &mut [u8], b: Budget, g: Geometry) -> Fit
+pub fn find_max_fit(
+    image: &mut [u8],
+    mut budget: Budget,
+    g: Geometry,
+) -> Result<Option<usize>, Refusal>
     requires { Within g (length image.old) }
-    ensures { Whole g (under b (find_max_fit g image.old)) image.old image.new (fit_as result) }
+    ensures { Whole g (under budget (find_max_fit g image.old)) image.old image.new (fit_as result) }
 {
-    fit_by(run_with_auto_repair(image, b, g, Count::MaxFit))
+    Ok(run_with_auto_repair::<MaxFit>(image, &mut budget, g)?)
 }
 
-// What it answers, by what the count came to.
-fn fit_by(counting: Counting) -> Fit
-    ensures { fit_as result ≡ unless_cut counting.spent (answered counting.counted) }
-{
-    let spent = counting.spent;
-    if spent.cut {
-        return Fit::Refused(Refusal::Cut);
-    }
-    let counted = counting.counted;
-    match counted {
-        Counted::Corrupted => Fit::Refused(Refusal::Corrupted),
-        Counted::Given(room) => match room {
-            Available::Bytes(n) => Fit::Longest(n),
-            Available::Nothing => Fit::Nothing,
-        },
-    }
-}
-
-fn find_max_fit_inner(image: &[u8], g: Geometry) -> Counted
+#[tactic(auto, unfolding(paper::specs::Counts::fit), using(page::proofs::Searching::seen))]
+fn find_max_fit_inner(image: &[u8], g: Geometry) -> Result<Option<usize>, Corrupted>
     requires { Within g (length image.now) }
-    ensures { counted_as result ≡ fit g image.now }
+    ensures { counted_as available_as result ≡ fit g image.now }
 {
     let table = page::page_states(image, g);
-    let youngest = page::find_youngest_page(table, g);
-    match youngest {
-        Chosen::Corrupted => Counted::Corrupted,
-        Chosen::At(current) => fit_from(image, g, current),
-    }
+    let current = page::find_youngest_page(table, g)?;
+    fit_from(image, g, current)
 }
 
 // Space on the next page comes first; else the current page has what is behind its free spot.
-fn fit_from(image: &[u8], g: Geometry, current: Page) -> Counted
+#[tactic(auto, unfolding(paper::specs::Counts::fit_by, crate::specs::Counts::empty_by))]
+fn fit_from(image: &[u8], g: Geometry, current: Page) -> Result<Option<usize>, Corrupted>
     requires { Within g (length image.now) × (current.0 < g.pages) }
-    ensures { counted_as result ≡ fit_by g image.now current.0 (state g image.now (next g current.0)) }
+    ensures { counted_as available_as result ≡ fit_by g image.now current.0 (state g image.now (next g current.0)) }
 {
     let next = page::next_page(g, current);
     let state = page::get_page_state(image, g, next);
     match state {
         PageState::Closed => {
             if is_page_empty(image, g, next, state) {
-                return whole_page(g);
+                return Ok(Some(chip::calculate_page_size(g)));
             }
-            fit_behind(image, g, current)
+            Ok(fit_behind(image, g, current))
         }
-        PageState::Open => whole_page(g),
+        PageState::Open => Ok(Some(chip::calculate_page_size(g))),
         // The Rust: this should never happen.
-        PageState::PartialOpen => Counted::Corrupted,
-        PageState::Corrupted => Counted::Corrupted,
+        PageState::PartialOpen => Err(Corrupted),
+        PageState::Corrupted => Err(Corrupted),
     }
 }
 
 #[tactic(auto, using(item::proofs::Serving::available_longest))]
-fn fit_behind(image: &[u8], g: Geometry, current: Page) -> Counted
+fn fit_behind(image: &[u8], g: Geometry, current: Page) -> Option<usize>
     requires { Within g (length image.now) × (current.0 < g.pages) }
-    ensures { counted_as result ≡ gives (longest g (page_walk g image.now current.0).rest) }
+    ensures { available_as result ≡ longest g (page_walk g image.now current.0).rest }
 {
     let free = item::find_free_in_page(image, g, current);
-    Counted::Given(ItemHeader::available_data_bytes(g, free.left))
-}
-
-fn whole_page(g: Geometry) -> Counted
-    requires { Good g }
-    ensures { counted_as result ≡ gives (number (data_size g)) }
-{
-    Counted::Given(Available::Bytes(chip::calculate_page_size(g)))
+    ItemHeader::available_data_bytes(g, free.left)
 }
 
 // ---- space_left
 
-pub fn space_left(image: &mut [u8], b: Budget, g: Geometry) -> Space
+pub fn space_left(image: &mut [u8], mut budget: Budget, g: Geometry) -> Result<usize, Refusal>
     requires { Within g (length image.old) }
-    ensures { Whole g (under b (space_left g image.old)) image.old image.new (space_as result) }
+    ensures { Whole g (under budget (space_left g image.old)) image.old image.new (space_as result) }
 {
-    space_by(run_with_auto_repair(image, b, g, Count::SpaceLeft))
-}
-
-// What it answers, by what the count came to.
-fn space_by(counting: Counting) -> Space
-    requires { counting.spent.cut ≡ false → answered counting.counted ≡ none → ⊥ }
-    ensures { space_as result ≡ unless_cut counting.spent (answered counting.counted) }
-{
-    let spent = counting.spent;
-    if spent.cut {
-        return Space::Refused(Refusal::Cut);
-    }
-    let counted = counting.counted;
-    match counted {
-        Counted::Corrupted => Space::Refused(Refusal::Corrupted),
-        Counted::Given(room) => match room {
-            Available::Bytes(n) => Space::Left(n),
-            // Never so: a sum is a number.
-            Available::Nothing => Space::Left(0),
-        },
-    }
+    Ok(run_with_auto_repair::<SpaceLeft>(image, &mut budget, g)?)
 }
 
 // The sum fits: it is below 256 times 2^32.
-fn space_left_inner(image: &[u8], g: Geometry) -> Counted
+#[tactic(auto, unfolding(paper::specs::Counts::space), using(crate::proofs::Spaces::sums))]
+fn space_left_inner(image: &[u8], g: Geometry) -> Result<usize, Corrupted>
     requires { Within g (length image.now) }
-    ensures { counted_as result ≡ space g image.now }
+    ensures { counted_as number result ≡ space g image.now }
 {
     let mut total_free_space: usize = 0;
-    let mut page_index = 0;
-    while page_index < g.pages {
-        let state = page::get_page_state(image, g, Page(page_index));
-        if page::is_same(state, PageState::Corrupted) {
-            return Counted::Corrupted;
+    for page_index in 0..g.pages {
+        let page = Page(page_index);
+        let state = page::get_page_state(image, g, page);
+        if state == PageState::Corrupted {
+            return Err(Corrupted);
         }
-        total_free_space += space_in_page(image, g, Page(page_index), state);
-        page_index += 1;
+        total_free_space += space_in_page(image, g, page, state);
     }
-    Counted::Given(Available::Bytes(total_free_space))
+    Ok(total_free_space)
 }
 
+#[tactic(auto, unfolding(paper::specs::Chip::data_size), using(crate::proofs::Spaces::space_in))]
 fn space_in_page(image: &[u8], g: Geometry, page: Page, state: PageState) -> usize
     requires { Within g (length image.now) × (page.0 < g.pages) }
     ensures { SpaceIs g image.now page.0 state result }
@@ -170,7 +170,7 @@ fn space_in_page(image: &[u8], g: Geometry, page: Page, state: PageState) -> usi
     if is_page_empty(image, g, page, state) {
         return chip::calculate_page_size(g);
     }
-    if page::is_same(state, PageState::Closed) {
+    if state == PageState::Closed {
         return 0;
     }
     space_behind(image, g, page)
@@ -183,16 +183,13 @@ fn space_behind(image: &[u8], g: Geometry, page: Page) -> usize
     ensures { SpaceIs g image.now page.0 PartialOpen result }
 {
     let free = item::find_free_in_page(image, g, page);
-    let room = ItemHeader::available_data_bytes(g, free.left);
-    match room {
-        Available::Bytes(_) => free.left,
-        Available::Nothing => {
-            if is_page_empty(image, g, page, PageState::Closed) {
-                return chip::calculate_page_size(g);
-            }
-            free.left
-        }
+    if ItemHeader::available_data_bytes(g, free.left).is_some() {
+        return free.left;
     }
+    if is_page_empty(image, g, page, PageState::Closed) {
+        return chip::calculate_page_size(g);
+    }
+    free.left
 }
 
 // Whether all of a page may be used: by its state, and where that is Closed by its items.
@@ -203,67 +200,19 @@ fn is_page_empty(image: &[u8], g: Geometry, page: Page, state: PageState) -> boo
 {
     match state {
         PageState::Closed => !item::page_contains_live_data(image, g, page),
-        PageState::PartialOpen => false,
         PageState::Open => true,
-        PageState::Corrupted => false,
-    }
-}
-
-// ---- a count with its repair
-
-// The count; where it meets a Corrupted page, once more after a repair.
-fn run_with_auto_repair(image: &mut [u8], b: Budget, g: Geometry, count: Count) -> Counting
-    requires { Within g (length image.old) }
-    ensures { Ran g b (counted g image.old (count_of count g)) image.old image.new result.spent (answered result.counted) }
-{
-    let first = run(&image[..], g, count);
-    match first {
-        Counted::Given(_) => Counting {
-            spent: Spent {
-                cut: false,
-                budget: b,
-            },
-            counted: first,
-        },
-        Counted::Corrupted => {
-            let spent = page::try_general_repair(image, b, g);
-            if spent.cut {
-                return Counting {
-                    spent,
-                    counted: first,
-                };
-            }
-            let counted = run(&image[..], g, count);
-            Counting { spent, counted }
-        }
-    }
-}
-
-fn run(image: &[u8], g: Geometry, count: Count) -> Counted
-    requires { Within g (length image.now) }
-    ensures { counted_as result ≡ count_of count g image.now }
-{
-    match count {
-        Count::MaxFit => find_max_fit_inner(image, g),
-        Count::SpaceLeft => space_left_inner(image, g),
+        PageState::PartialOpen | PageState::Corrupted => false,
     }
 }
 
 // ---- erase_all
 
-pub fn erase_all(image: &mut [u8], b: Budget, g: Geometry) -> Erased
+pub fn erase_all(image: &mut [u8], mut budget: Budget, g: Geometry) -> Result<(), Refusal>
     requires { Within g (length image.old) }
-    ensures { Whole g (under b (erase_all g)) image.old image.new (erased_as result) }
+    ensures { Whole g (under budget (erase_all g)) image.old image.new (erased_as result) }
 {
-    let mut budget = b;
-    let mut p = 0;
-    while p < g.pages {
-        let spent = chip::erase_page(image, budget, g, Page(p));
-        if spent.cut {
-            return Erased::Refused(Refusal::Cut);
-        }
-        budget = spent.budget;
-        p += 1;
+    for p in 0..g.pages {
+        chip::erase_page(image, &mut budget, g, Page(p))?;
     }
-    Erased::Done
+    Ok(())
 }

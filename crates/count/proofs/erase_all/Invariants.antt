@@ -1,18 +1,13 @@
 -- `count::erase_all`: the invariant: erasing the pages from here on completes the erase of all. Assumes nothing.
-use Rattle.std.proofs.Common.{◌≡◌, List, ℕ, ◌-◌, ◌≤◌, length}
+use Rattle.std.proofs.Common.{◌≡◌, List, ℕ, ◌-◌, length}
 use Rattle.paper.specs.Pages.{around}
 use Rattle.paper.specs.Calls.{erases, erase_all}
-use Rattle.chip.specs.declared.Spent.{Spent}
-use Rattle.chip.specs.Run.{Did}
+use Rattle.chip.specs.Run.{Spent, Did}
 use Rattle.count.proofs.erase_all.Given as goal
 
 abbrev pub invariant-loop-p : goal.invariant-loop-p
 invariant-loop-p l = record {
-  same_length : length l.image ≡ length l.initial.image;
-  in_ring : l.p ≤ l.g.pages;
+  same_length : length l.image ≡ length l.fn.image;
   completes : (o : List ℕ) (r : Spent) → Did l.g l.budget (erases l.g (around l.g (l.g.pages - l.p) l.p)) l.image o r
-      → Did l.g l.initial.budget (erase_all l.g).events l.initial.image o r;
+      → Did l.g l.fn.budget (erase_all l.g).events l.fn.image o r;
 }
-
-abbrev pub decreases-loop-p : goal.decreases-loop-p
-decreases-loop-p l = l.g.pages - l.p

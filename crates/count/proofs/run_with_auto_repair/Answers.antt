@@ -1,20 +1,32 @@
 -- `count::run_with_auto_repair` meets its contract: a run that gives, one whose repair is cut, and one more after the repair. Assumes nothing.
-use Rattle.std.proofs.Common.{sym, ap, ◌∙◌}
-use Rattle.count.specs.Counts.{count_of, counted_as}
+use Rattle.std.proofs.Common.{refl, sym}
+use Rattle.paper.specs.Chip.{fails, gives}
+use Rattle.chip.specs.declared.Failure.TheVariants as failure
+use Rattle.chip.proofs.Early.{handed}
 use Rattle.count.proofs.Retries.{count_gives, count_cut, count_again}
 use Rattle.count.proofs.run_with_auto_repair.Goals as goal
 
-pub returns-then-spent : goal.returns-then-spent
-returns-then-spent c =
-    let e = sym c.run-first.ensures ∙ ap counted_as c.in-Corrupted.is in
-    count_cut _ _ _ (count_of c.args.count c.args.g) e c.try_general_repair-spent.ensures _ c.if-spent.true
+pub returns-in-Ok : goal.returns-in-Ok
+returns-in-Ok g c =
+    let a = c.args in
+    count_gives a.g a.budget.now a.image.now (g.C.Count.step a.g) _ (sym c.in-Ok.ensures)
 
-pub returns-in-Given : goal.returns-in-Given
-returns-in-Given c =
-    let e = sym c.run-first.ensures ∙ ap counted_as c.in-Given.is in
-    rw c.in-Given.is (count_gives _ _ _ (count_of c.args.count c.args.g) _ e)
+pub returns-in_err-try_general_repair-in-Err : goal.returns-in_err-try_general_repair-in-Err
+returns-in_err-try_general_repair-in-Err g c =
+    let a = c.args in
+    rw (handed _ failure.Cut c.from_residual.ensures.1)
+    (count_cut a.g a.budget.now a.image.now (g.C.Count.step a.g) (sym c.in-Err.ensures) c.in_err-try_general_repair-in-Err.ensures _ refl)
 
-pub returns-else-spent : goal.returns-else-spent
-returns-else-spent c =
-    let e = sym c.run-first.ensures ∙ ap counted_as c.in-Corrupted.is in
-    rw c.run-counted.ensures (count_again _ _ _ (count_of c.args.count c.args.g) e c.try_general_repair-spent.ensures c.if-spent.false)
+pub returns-in_err-run-in-Err : goal.returns-in_err-run-in-Err
+returns-in_err-run-in-Err g c =
+    let a = c.args in
+    let r = c.in_ok-try_general_repair-in-Err.ensures in
+    rw (handed _ failure.Corrupted c.from_residual-in_err-run-in-Err.ensures.1)
+    (count_again a.g a.budget.now a.image.now (g.C.Count.step a.g) (sym c.in-Err.ensures) r refl (fails tt) c.in_err-run-in-Err.ensures)
+
+pub returns-in_ok-run-in-Err : goal.returns-in_ok-run-in-Err
+returns-in_ok-run-in-Err g c =
+    let a = c.args in
+    let r = c.in_ok-try_general_repair-in-Err.ensures in
+    let e = c.in_ok-run-in-Err in
+    count_again a.g a.budget.now a.image.now (g.C.Count.step a.g) (sym c.in-Err.ensures) r refl (gives (g.C.Count.answer e.field-0)) e.ensures

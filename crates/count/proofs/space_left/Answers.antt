@@ -1,14 +1,16 @@
--- `count::space_left` meets its contract: what the count with its repair came to, in the words of its answer, which is never none. Assumes nothing.
-use Rattle.std.proofs.Common.{sym, ◌∙◌}
+-- `count::space_left` meets its contract: what the count with its repair came to, in the words of its answer. Assumes nothing.
+use Rattle.std.proofs.Common.{ℕ, refl}
 use Rattle.paper.specs.Counts.{space_left}
-use Rattle.chip.proofs.Limiting.{ran_under}
-use Rattle.count.proofs.Retries.{left_some}
+use Rattle.chip.proofs.Early.{handed, refused_by}
+use Rattle.chip.proofs.Limiting.{under_done}
 use Rattle.count.proofs.space_left.Goals as goal
 
-pub space_by-requires : goal.space_by-requires
+pub returns-in_err-run_with_auto_repair : goal.returns-in_err-run_with_auto_repair
 unfolding space_left
-space_by-requires c = λ f e. left_some _ _ (sym (c.run_with_auto_repair.ensures.says f) ∙ e)
+returns-in_err-run_with_auto_repair c =
+    let e = c.in_err-run_with_auto_repair in
+    rw (handed _ _ c.from_residual.ensures.1) (refused_by ℕ _ e.field-0.0 e.ensures)
 
 pub returns : goal.returns
 unfolding space_left
-returns c = rw c.space_by.ensures (ran_under c.args.b _ c.run_with_auto_repair.ensures)
+returns c = under_done _ _ c.in_ok-run_with_auto_repair.ensures refl

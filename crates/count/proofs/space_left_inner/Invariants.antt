@@ -8,11 +8,7 @@ use Rattle.count.proofs.space_left_inner.Given as goal
 
 abbrev pub invariant-loop-page_index : goal.invariant-loop-page_index
 invariant-loop-page_index l = record {
-  in_ring : l.page_index ≤ l.g.pages;
   small : l.total_free_space ≤ address_limit * l.page_index;
   sum : space_of l.g l.image (all_pages l.g)
       ≡ plus l.total_free_space (space_of l.g l.image (around l.g (l.g.pages - l.page_index) l.page_index));
 }
-
-abbrev pub decreases-loop-page_index : goal.decreases-loop-page_index
-decreases-loop-page_index l = l.g.pages - l.page_index
