@@ -1,10 +1,9 @@
 -- What the public calls promise, on any shape and image. Assumes nothing.
-use Rattle.std.specs.Prelude.{List, ℕ}
+use Rattle.std.specs.Prelude.{List, ℕ, Option}
 use Rattle.paper.specs.declared.Shape.{Shape}
 use Rattle.paper.specs.Refusals.{Answer, geometry_of}
 use Rattle.paper.specs.Calls.{Call, requested, limited}
-use Rattle.chip.specs.declared.Budget.{Budget}
-use Rattle.chip.specs.Run.{Whole, WholeShown, under}
+use Rattle.chip.specs.Run.{Whole, WholeShown, limited_by}
 
 -- ---- the whole call
 
@@ -24,10 +23,10 @@ AnswersWithin k s c i o x = Whole (geometry_of s) (limited k (requested s i c)) 
 abbrev pub ShowsWithin : ℕ → Shape → Call → List ℕ → List ℕ → List ℕ → List ℕ → Answer → Type 0
 ShowsWithin k s c i o d e x = WholeShown (geometry_of s) (limited k (requested s i c)) i o d e x
 
--- ---- both, under a budget
+-- ---- both: with a limit or without. `Answers` is `AnswersUnder None`, and `AnswersWithin k` is `AnswersUnder (Some k)`
 
-abbrev pub AnswersUnder : Budget → Shape → Call → List ℕ → List ℕ → Answer → Type 0
-AnswersUnder b s c i o x = Whole (geometry_of s) (under b (requested s i c)) i o x
+abbrev pub AnswersUnder : Option ℕ → Shape → Call → List ℕ → List ℕ → Answer → Type 0
+AnswersUnder limit s c i o x = Whole (geometry_of s) (limited_by limit (requested s i c)) i o x
 
-abbrev pub ShowsUnder : Budget → Shape → Call → List ℕ → List ℕ → List ℕ → List ℕ → Answer → Type 0
-ShowsUnder b s c i o d e x = WholeShown (geometry_of s) (under b (requested s i c)) i o d e x
+abbrev pub ShowsUnder : Option ℕ → Shape → Call → List ℕ → List ℕ → List ℕ → List ℕ → Answer → Type 0
+ShowsUnder limit s c i o d e x = WholeShown (geometry_of s) (limited_by limit (requested s i c)) i o d e x

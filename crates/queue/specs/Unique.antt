@@ -1,4 +1,4 @@
--- Each public call has one outcome: one image, one buffer and one answer, in the call's own enum, meet its promise. Assumes nothing.
+-- Each public call has one outcome: one image, one buffer and one answer, in the call's own type, meet its promise. Assumes nothing.
 use Rattle.std.specs.Prelude.{◌≡◌, Bool, List, ℕ}
 use Rattle.paper.specs.declared.Shape.{Shape}
 use Rattle.paper.specs.Refusals.{pushed_as, shown_as, fit_as, space_as, erased_as}
