@@ -1,7 +1,7 @@
 // The two checksums, on inputs whose answers the Rust crate gave: oracle/checksums makes stdin and stdout.
-ghost use Rattle.std.specs.Prelude.{◌≤◌, length, IfOk};
+ghost use Rattle.std.specs.Prelude.{◌≤◌, length};
 
-use std::io::{self, Read, Write};
+use std::io::{self, BufRead, ErrorKind, Read, Write};
 
 // Prints the published check value of CRC-32C, which starts from all ones.
 pub fn check_value<W: Write>(output: &mut W) -> io::Result<()> {
@@ -11,7 +11,7 @@ pub fn check_value<W: Write>(output: &mut W) -> io::Result<()> {
 
 // Reads cases until the input ends, and prints a line for each. A proved loop has to end, and nothing says that the input
 // does. So the loop counts its turns, up to a number that no run reaches.
-pub fn cases<R: Read, W: Write>(input: &mut R, output: &mut W) -> io::Result<()> {
+pub fn cases<R: BufRead, W: Write>(input: &mut R, output: &mut W) -> io::Result<()> {
     for _ in 0..u64::MAX {
         if !next_case(input, output)? {
             break;
@@ -22,17 +22,16 @@ pub fn cases<R: Read, W: Write>(input: &mut R, output: &mut W) -> io::Result<()>
 
 // Reads a case, which is a length in two bytes, low byte first, and that many bytes. Prints its line, and answers whether to
 // go on.
-fn next_case<R: Read, W: Write>(input: &mut R, output: &mut W) -> io::Result<bool> {
-    let mut field = [0u8; 2];
-    let read = read_full(input, &mut field)?;
-    if read == 0 {
+fn next_case<R: BufRead, W: Write>(input: &mut R, output: &mut W) -> io::Result<bool> {
+    if input.fill_buf()?.is_empty() {
         return Ok(false);
     }
-    if read < 2 {
+    let mut field = [0u8; 2];
+    if !fills(input, &mut field)? {
         return refuse(output);
     }
     let mut space = [0u8; 65536];
-    let size = wide(field[0]) + 256 * wide(field[1]);
+    let size = usize::from(u16::from_le_bytes(field));
     read_bytes(input, output, size, &mut space)
 }
 
@@ -46,27 +45,20 @@ fn read_bytes<R: Read, W: Write>(
     requires { size ≤ length space.old }
 {
     let bytes = &mut space[..size];
-    let read = read_full(input, bytes)?;
-    if read < size {
+    if !fills(input, bytes)? {
         return refuse(output);
     }
     print_case(output, bytes)?;
     Ok(true)
 }
 
-// Reads until `bytes` is full or the input ends, and answers how many bytes it put at its start.
-fn read_full<R: Read>(input: &mut R, bytes: &mut [u8]) -> io::Result<usize>
-    ensures { IfOk result (λ n. n ≤ length bytes.new) }
-{
-    let mut done = 0;
-    while done < bytes.len() {
-        let n = input.read(&mut bytes[done..])?;
-        if n == 0 {
-            break;
-        }
-        done += n;
+// Whether the input fills `bytes` before it ends. replay has the same lines: the two programs share no library that reads.
+fn fills<R: Read>(input: &mut R, bytes: &mut [u8]) -> io::Result<bool> {
+    match input.read_exact(bytes) {
+        Ok(()) => Ok(true),
+        Err(e) if e.kind() == ErrorKind::UnexpectedEof => Ok(false),
+        Err(e) => Err(e),
     }
-    Ok(done)
 }
 
 // Prints a case's length, length CRC and data CRC.
@@ -81,10 +73,4 @@ fn print_case<W: Write>(output: &mut W, bytes: &[u8]) -> io::Result<()> {
 fn refuse<W: Write>(output: &mut W) -> io::Result<bool> {
     writeln!(output, "malformed: the input ends inside a case")?;
     Ok(false)
-}
-
-fn wide(b: u8) -> usize
-    ensures { result ≤ 255 }
-{
-    b as usize
 }

@@ -1,10 +1,8 @@
 -- What the two functions that only look answer, as numbers: a page's state, and what the scan sees at an address. Assumes nothing.
-use Rattle.std.specs.Prelude.{◌≡◌, cond, ◌&&◌, List, ℕ, ◌+◌, ◌-◌, ◌*◌, leb, ltb, length}
+use Rattle.std.specs.Prelude.{◌≡◌, cond, ◌&&◌, List, ℕ, ◌+◌, ◌-◌, ◌*◌, leb, ltb, length, Result, Ok, Err}
 use Rattle.paper.specs.declared.Geometry.{Geometry}
 use Rattle.paper.specs.declared.Shape.{Shape}
 use Rattle.paper.specs.declared.Refusal.{Refusal}
-use Rattle.paper.specs.declared.Checked.{Checked}
-use Rattle.paper.specs.declared.Checked.TheVariants.{Accepted, Refused}
 use Rattle.paper.specs.Chip.{data_start, data_end, part}
 use Rattle.paper.specs.Slip.{Look, stop, bad, item, look}
 use Rattle.paper.specs.Scan.{Head, live, present}
@@ -22,9 +20,9 @@ pub record Free : Type 0 where
   pub values : (v : ℕ) → code 0 v ≡ not_there → ⊥
 
 -- a look at page p: the shape's refusal, then that there is no such page
-abbrev pub on_page : Checked → ℕ → (Geometry → ℕ) → ℕ
-on_page (Refused r) p own = row_code (row r)
-on_page (Accepted g) p own = cond (ltb p g.pages) (own g) not_there
+abbrev pub on_page : Result Geometry Refusal → ℕ → (Geometry → ℕ) → ℕ
+on_page (Err r) p own = row_code (row r)
+on_page (Ok g) p own = cond (ltb p g.pages) (own g) not_there
 
 unfoldable pub state_code : Shape → List ℕ → ℕ → ℕ
 state_code s im p = on_page (check (length im) s) p (λ g. code 0 (rank (state g im p)))

@@ -15,9 +15,9 @@ ghost use Rattle.codes.specs.Codes.{code_of_check};
 ghost use Rattle.dock.specs.Promises.{shape_from, is_on, Returns, ReturnsWithin, ReturnsShown, ReturnsShownWithin};
 ghost use Rattle.dock.specs.Sights.{state_code, kind, seen, sight, item_code};
 
-use chip::{Address, Page};
-use item::{ItemHeader, MaybeHeader};
-use paper::{Checked, Geometry, Shape};
+use chip::{Address, Corrupted, Page};
+use item::ItemHeader;
+use paper::{Geometry, Shape};
 
 // ---- what C passes
 
@@ -41,12 +41,13 @@ pub extern "C" fn slipq_check(image_len: usize, geometry: &[u32; 4]) -> u64
     ensures { result ≡ code_of_check (check image_len (shape_from geometry.now)) }
 {
     let s = shape_of(geometry);
-    let checked = queue::check_geometry(image_len, s);
-    match checked {
-        Checked::Accepted(_) => 0,
-        Checked::Refused(refusal) => codes::refusal_code(refusal),
+    match queue::check_geometry(image_len, s) {
+        Ok(_) => 0,
+        Err(refusal) => codes::refusal_code(refusal),
     }
 }
+
+// Below, each call of the queue has two functions, which differ in the limit: C has their names.
 
 // ---- push
 
@@ -61,7 +62,7 @@ pub extern "C" fn slipq_push(
     ensures { Returns (shape_from geometry.now) (pushes slip.now (is_on overwrite)) image.old image.new result }
 {
     let s = shape_of(geometry);
-    codes::pushed_code(queue::push(image, s, slip, overwrite != 0))
+    codes::pushed_code(queue::push(image, s, slip, overwrite != 0, None))
 }
 
 #[unsafe(no_mangle)]
@@ -75,7 +76,7 @@ pub extern "C" fn slipq_push_limited(
     ensures { ReturnsWithin limit (shape_from geometry.now) (pushes slip.now (is_on overwrite)) image.old image.new result }
 {
     let s = shape_of(geometry);
-    codes::pushed_code(queue::push_limited(image, s, slip, overwrite != 0, limit))
+    codes::pushed_code(queue::push(image, s, slip, overwrite != 0, Some(limit)))
 }
 
 // ---- peek
@@ -85,7 +86,7 @@ pub extern "C" fn slipq_peek(image: &mut [u8], geometry: &[u32; 4], buffer: &mut
     ensures { ReturnsShown (shape_from geometry.now) (peeks buffer.old) image.old image.new buffer.old buffer.new result }
 {
     let s = shape_of(geometry);
-    codes::shown_code(queue::peek(image, buffer, s))
+    codes::shown_code(queue::peek(image, buffer, s, None))
 }
 
 #[unsafe(no_mangle)]
@@ -98,7 +99,7 @@ pub extern "C" fn slipq_peek_limited(
     ensures { ReturnsShownWithin limit (shape_from geometry.now) (peeks buffer.old) image.old image.new buffer.old buffer.new result }
 {
     let s = shape_of(geometry);
-    codes::shown_code(queue::peek_limited(image, buffer, s, limit))
+    codes::shown_code(queue::peek(image, buffer, s, Some(limit)))
 }
 
 // ---- pop
@@ -108,7 +109,7 @@ pub extern "C" fn slipq_pop(image: &mut [u8], geometry: &[u32; 4], buffer: &mut 
     ensures { ReturnsShown (shape_from geometry.now) (pops buffer.old) image.old image.new buffer.old buffer.new result }
 {
     let s = shape_of(geometry);
-    codes::shown_code(queue::pop(image, buffer, s))
+    codes::shown_code(queue::pop(image, buffer, s, None))
 }
 
 #[unsafe(no_mangle)]
@@ -121,7 +122,7 @@ pub extern "C" fn slipq_pop_limited(
     ensures { ReturnsShownWithin limit (shape_from geometry.now) (pops buffer.old) image.old image.new buffer.old buffer.new result }
 {
     let s = shape_of(geometry);
-    codes::shown_code(queue::pop_limited(image, buffer, s, limit))
+    codes::shown_code(queue::pop(image, buffer, s, Some(limit)))
 }
 
 // ---- find_max_fit
@@ -131,7 +132,7 @@ pub extern "C" fn slipq_find_max_fit(image: &mut [u8], geometry: &[u32; 4]) -> u
     ensures { Returns (shape_from geometry.now) fits image.old image.new result }
 {
     let s = shape_of(geometry);
-    codes::fit_code(queue::find_max_fit(image, s))
+    codes::fit_code(queue::find_max_fit(image, s, None))
 }
 
 #[unsafe(no_mangle)]
@@ -143,7 +144,7 @@ pub extern "C" fn slipq_find_max_fit_limited(
     ensures { ReturnsWithin limit (shape_from geometry.now) fits image.old image.new result }
 {
     let s = shape_of(geometry);
-    codes::fit_code(queue::find_max_fit_limited(image, s, limit))
+    codes::fit_code(queue::find_max_fit(image, s, Some(limit)))
 }
 
 // ---- space_left
@@ -153,7 +154,7 @@ pub extern "C" fn slipq_space_left(image: &mut [u8], geometry: &[u32; 4]) -> u64
     ensures { Returns (shape_from geometry.now) spaces image.old image.new result }
 {
     let s = shape_of(geometry);
-    codes::space_code(queue::space_left(image, s))
+    codes::space_code(queue::space_left(image, s, None))
 }
 
 #[unsafe(no_mangle)]
@@ -165,7 +166,7 @@ pub extern "C" fn slipq_space_left_limited(
     ensures { ReturnsWithin limit (shape_from geometry.now) spaces image.old image.new result }
 {
     let s = shape_of(geometry);
-    codes::space_code(queue::space_left_limited(image, s, limit))
+    codes::space_code(queue::space_left(image, s, Some(limit)))
 }
 
 // ---- erase_all
@@ -175,7 +176,7 @@ pub extern "C" fn slipq_erase_all(image: &mut [u8], geometry: &[u32; 4]) -> u64
     ensures { Returns (shape_from geometry.now) erases_all image.old image.new result }
 {
     let s = shape_of(geometry);
-    codes::erased_code(queue::erase_all(image, s))
+    codes::erased_code(queue::erase_all(image, s, None))
 }
 
 #[unsafe(no_mangle)]
@@ -187,60 +188,54 @@ pub extern "C" fn slipq_erase_all_limited(
     ensures { ReturnsWithin limit (shape_from geometry.now) erases_all image.old image.new result }
 {
     let s = shape_of(geometry);
-    codes::erased_code(queue::erase_all_limited(image, s, limit))
+    codes::erased_code(queue::erase_all(image, s, Some(limit)))
 }
 
 // ---- looks at the image
 
-// For a page that is not there, and for an address that its data has not: no row of document 01 has this number.
+// For a page that is not there, and for an address that its data has not: no row of document 01 has this number. C is told it, and the kind
+// of what stands at an address, by numbers alone. Both looks begin with the same match: a function for it would answer one of two numbers, and
+// be matched again.
 const NOT_THERE: u64 = 255;
 
+#[tactic(auto, using(std::proofs::lemmas::Bool::Decides::nat_tests), unfolding(crate::specs::Sights::state_code))]
 #[unsafe(no_mangle)]
 pub extern "C" fn slipq_page_state(image: &[u8], geometry: &[u32; 4], p: u32) -> u64
     ensures { result ≡ state_code (shape_from geometry.now) image.now p }
 {
     let s = shape_of(geometry);
-    let checked = chip::check_geometry(image.len(), s);
-    match checked {
-        Checked::Refused(refusal) => codes::refusal_code(refusal),
-        Checked::Accepted(g) => {
-            if p >= g.pages {
-                return NOT_THERE;
-            }
+    match chip::check_geometry(image.len(), s) {
+        Ok(g) if p < g.pages => {
             let state = page::get_page_state(image, g, Page(p));
             codes::coded(0, page::rank(state) as usize)
         }
+        Ok(_) => NOT_THERE,
+        Err(refusal) => codes::refusal_code(refusal),
     }
 }
 
+#[tactic(auto, using(std::proofs::lemmas::Bool::Decides::nat_tests), unfolding(crate::specs::Sights::item_code))]
 #[unsafe(no_mangle)]
 pub extern "C" fn slipq_item(image: &[u8], geometry: &[u32; 4], p: u32, address: u32) -> u64
     ensures { result ≡ item_code (shape_from geometry.now) image.now p address }
 {
     let s = shape_of(geometry);
-    let checked = chip::check_geometry(image.len(), s);
-    match checked {
-        Checked::Refused(refusal) => codes::refusal_code(refusal),
-        Checked::Accepted(g) => {
-            if p >= g.pages {
-                return NOT_THERE;
-            }
-            item_on_page(image, g, Page(p), Address(address))
-        }
+    match chip::check_geometry(image.len(), s) {
+        Ok(g) if p < g.pages => item_on_page(image, g, Page(p), Address(address)),
+        Ok(_) => NOT_THERE,
+        Err(refusal) => codes::refusal_code(refusal),
     }
 }
 
 // The end of the data is an address too: a scan that comes to it sees nothing more.
+#[tactic(auto, using(std::proofs::lemmas::Bool::Decides::nat_tests), unfolding(crate::specs::Sights::sight))]
 fn item_on_page(image: &[u8], g: Geometry, p: Page, at: Address) -> u64
     requires { Within g (length image.now) × (p.0 < g.pages) }
     ensures { result ≡ sight g image.now p.0 at.0 }
 {
     let first = chip::page_data_start_address(g, p);
     let end = chip::page_data_end_address(g, p);
-    if at.0 < first.0 {
-        return NOT_THERE;
-    }
-    if end.0 < at.0 {
+    if at < first || end < at {
         return NOT_THERE;
     }
     codes::coded(0, item_at(image, g, at, end))
@@ -251,14 +246,10 @@ fn item_at(image: &[u8], g: Geometry, at: Address, end: Address) -> usize
     requires { Inside g (length image.now) at.0 end.0 }
     ensures { result ≡ seen at.0 (look g (part at.0 (end.0 - at.0) image.now)) }
 {
-    let found = ItemHeader::read_new(image, g, at, end);
-    match found {
-        MaybeHeader::Nothing => 0,
-        MaybeHeader::Bad => 1,
-        MaybeHeader::Accepted(header) => {
-            let length = header.length as usize;
-            kind_of(image, g, at, header) + 8 * length
-        }
+    match ItemHeader::read_new(image, g, at, end) {
+        Ok(None) => 0,
+        Err(Corrupted) => 1,
+        Ok(Some(header)) => kind_of(image, g, at, header) + 8 * usize::from(header.length),
     }
 }
 
@@ -271,7 +262,7 @@ fn kind_of(image: &[u8], g: Geometry, at: Address, header: ItemHeader) -> usize
         return 3;
     }
     let from = ItemHeader::data_address(g, at).0 as usize;
-    let to = from + (header.length as usize);
+    let to = from + usize::from(header.length);
     if checksum::adapted_crc32(&image[from..to]) == header.crc {
         return 2;
     }

@@ -19,16 +19,14 @@ mod call;
 mod print;
 mod record;
 
-ghost use Rattle.std.specs.Prelude.{◌≤◌, length, IfOk};
-
 use record::Record;
-use std::io::{self, BufReader, BufWriter, Read, Write};
+use std::io::{self, BufRead, BufReader, BufWriter, ErrorKind, Read, Write};
 
 // The largest range that is played, 4 pages of 65,536 bytes, and 32 KiB more: an image may begin before its range and end behind it. A
 // range may have 16 MiB; those are left to ./compare --large, so that this room stays small.
 const IMAGE: usize = 294912;
 // The image, and behind it the copy.
-const ROOM: usize = 589824;
+const ROOM: usize = 2 * IMAGE;
 // One more than the longest slip.
 const LENT: usize = 65536;
 
@@ -42,14 +40,12 @@ fn main(rt: HostRuntime) -> io::Result<()> {
 }
 
 // A proved loop has to end, and nothing says that the input does. So the loop counts its turns, up to a number that no run reaches.
-fn replay<R: Read, W: Write>(
+fn replay<R: BufRead, W: Write>(
     input: &mut R,
     output: &mut W,
-    room: &mut [u8],
-    lent: &mut [u8],
-) -> io::Result<()>
-    requires { (589824 ≤ length room.old) × (65536 ≤ length lent.old) }
-{
+    room: &mut [u8; ROOM],
+    lent: &mut [u8; LENT],
+) -> io::Result<()> {
     for _ in 0..u64::MAX {
         if !next_record(input, output, room, lent)? {
             break;
@@ -59,20 +55,20 @@ fn replay<R: Read, W: Write>(
 }
 
 // Answers whether to go on.
-fn next_record<R: Read, W: Write>(
+fn next_record<R: BufRead, W: Write>(
     input: &mut R,
     output: &mut W,
-    room: &mut [u8],
-    lent: &mut [u8],
-) -> io::Result<bool>
-    requires { (589824 ≤ length room.old) × (65536 ≤ length lent.old) }
-{
-    let mut field = [0u8; 32];
-    let read = read_full(input, &mut field)?;
-    if read < 32 {
-        return print::ended(output, read);
+    room: &mut [u8; ROOM],
+    lent: &mut [u8; LENT],
+) -> io::Result<bool> {
+    if input.fill_buf()?.is_empty() {
+        return Ok(false);
     }
-    let asked = record::decoded(&field);
+    let mut field = [0u8; 32];
+    if !fills(input, &mut field)? {
+        return print::malformed(output, "a record that is cut short");
+    }
+    let asked = Record::decoded(&field);
     if asked.letter == b'L' {
         return lay(input, output, room, asked);
     }
@@ -82,11 +78,9 @@ fn next_record<R: Read, W: Write>(
 fn lay<R: Read, W: Write>(
     input: &mut R,
     output: &mut W,
-    room: &mut [u8],
+    room: &mut [u8; ROOM],
     asked: Record,
-) -> io::Result<bool>
-    requires { 589824 ≤ length room.old }
-{
+) -> io::Result<bool> {
     let from = asked.at as usize;
     let to = from + (asked.count as usize);
     if to > IMAGE {
@@ -98,12 +92,10 @@ fn lay<R: Read, W: Write>(
 fn play<R: Read, W: Write>(
     input: &mut R,
     output: &mut W,
-    room: &mut [u8],
-    lent: &mut [u8],
+    room: &mut [u8; ROOM],
+    lent: &mut [u8; LENT],
     asked: Record,
-) -> io::Result<bool>
-    requires { (589824 ≤ length room.old) × (65536 ≤ length lent.old) }
-{
+) -> io::Result<bool> {
     let size = asked.size as usize;
     let count = asked.count as usize;
     if size > IMAGE {
@@ -112,26 +104,18 @@ fn play<R: Read, W: Write>(
     if count > LENT {
         return print::malformed(output, "a slip or a buffer that is too large");
     }
-    if !bring(input, output, &mut lent[0..count], asked)? {
+    let lent = &mut lent[..count];
+    if !bring(input, output, lent, asked)? {
         return Ok(false);
     }
-    let from = copied(room, size, asked);
-    let to = from + size;
-    call::play(output, &mut room[from..to], &mut lent[0..count], asked)
-}
-
-// Where the image begins that the call is made on.
-fn copied(room: &mut [u8], size: usize, asked: Record) -> usize
-    requires { (589824 ≤ length room.old) × (size ≤ 294912) }
-    ensures { result ≤ 294912 }
-{
-    if asked.flags / 4 % 2 == 0 {
-        return 0;
+    let (image, copy) = room.split_at_mut(IMAGE);
+    let image = &mut image[..size];
+    if asked.is_on_copy() {
+        let copy = &mut copy[..size];
+        copy.copy_from_slice(image);
+        return call::play(output, copy, lent, asked);
     }
-    for i in 0..size {
-        room[IMAGE + i] = room[i];
-    }
-    IMAGE
+    call::play(output, image, lent, asked)
 }
 
 // The bytes of a record. Answers whether they are all there.
@@ -141,34 +125,21 @@ fn bring<R: Read, W: Write>(
     bytes: &mut [u8],
     asked: Record,
 ) -> io::Result<bool> {
-    if asked.flags / 8 % 2 == 1 {
-        fill(bytes, asked.byte);
+    if asked.is_filled() {
+        bytes.fill(asked.byte);
         return Ok(true);
     }
-    let read = read_full(input, bytes)?;
-    if read < bytes.len() {
+    if !fills(input, bytes)? {
         return print::malformed(output, "bytes that are cut short");
     }
     Ok(true)
 }
 
-fn fill(bytes: &mut [u8], b: u8) {
-    for x in bytes.iter_mut() {
-        *x = b;
+// Whether the input fills `bytes` before it ends. cases has the same lines: the two programs share no library that reads.
+fn fills<R: Read>(input: &mut R, bytes: &mut [u8]) -> io::Result<bool> {
+    match input.read_exact(bytes) {
+        Ok(()) => Ok(true),
+        Err(e) if e.kind() == ErrorKind::UnexpectedEof => Ok(false),
+        Err(e) => Err(e),
     }
-}
-
-// Reads until `bytes` is full or the input ends, and answers how many bytes it put at its start.
-fn read_full<R: Read>(input: &mut R, bytes: &mut [u8]) -> io::Result<usize>
-    ensures { IfOk result (λ n. n ≤ length bytes.new) }
-{
-    let mut done = 0;
-    while done < bytes.len() {
-        let n = input.read(&mut bytes[done..])?;
-        if n == 0 {
-            break;
-        }
-        done += n;
-    }
-    Ok(done)
 }

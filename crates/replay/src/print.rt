@@ -35,11 +35,3 @@ pub fn malformed<W: Write>(output: &mut W, what: &str) -> io::Result<bool> {
     writeln!(output, "malformed: {what}")?;
     Ok(false)
 }
-
-// An input ends between two records.
-pub fn ended<W: Write>(output: &mut W, read: usize) -> io::Result<bool> {
-    if read > 0 {
-        return malformed(output, "a record that is cut short");
-    }
-    Ok(false)
-}

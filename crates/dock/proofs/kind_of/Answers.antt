@@ -18,7 +18,7 @@ slice_bounds-adapted_crc32-end c =
 
 pub returns-then-adapted_crc32-header : goal.returns-then-adapted_crc32-header
 returns-then-adapted_crc32-header c =
-    let p = lent c.args.image.now c.data_address-from.ensures (refl {a = c.args.header.length}) in (
+    let p = lent c.args.image.now c.data_address-from.ensures c.from.ensures in (
       kind_waits (head_at c.args.g c.args.image.now c.args.at.0 c.args.header) c.if-header-eq0.false
           (ap data_crc (sym p) ∙ sym (data_is c.adapted_crc32.ensures) ∙ c.if-adapted_crc32-header.true),
       omega arith,
@@ -26,7 +26,7 @@ returns-then-adapted_crc32-header c =
 
 pub returns : goal.returns
 returns c =
-    let p = lent c.args.image.now c.data_address-from.ensures (refl {a = c.args.header.length}) in (
+    let p = lent c.args.image.now c.data_address-from.ensures c.from.ensures in (
       kind_torn (head_at c.args.g c.args.image.now c.args.at.0 c.args.header) c.if-header-eq0.false
           (λ q. c.if-adapted_crc32-header.false (data_is c.adapted_crc32.ensures ∙ ap data_crc p ∙ q)),
       omega arith,
