@@ -4,9 +4,9 @@ use mathlib.Core.List.{List}
 use Prim.Native.Nat.{ℕ, ◌-◌, ◌≤◌, ◌<◌}
 use native.Mathlib.Omega.{arith}
 use lib.ListN.{length, take}
+use Rattle.std.specs.Prelude.{Ok}
 use Rattle.paper.specs.declared.Geometry.{Geometry}
 use Rattle.paper.specs.declared.Shape.{Shape}
-use Rattle.paper.specs.declared.Checked.TheVariants.{Accepted}
 use Rattle.paper.specs.Chip.{round_up, round_down, Event, buffer_after}
 use Rattle.paper.specs.Scan.{Head}
 use Rattle.paper.specs.Refusals.{geometry_of, check}
@@ -27,7 +27,7 @@ use Rattle.demand1.proofs.SearchRows.{search_seen}
 use Rattle.demand1.proofs.CopyRows.{peek_copies, pop_copies}
 
 -- what is seen stands at the buffer's front
-module _ (g : Geometry) (im : List ℕ) (s : Shape) (e : check (length im) s ≡ Accepted g) (n k : ℕ) (hs : List Head) (w : Way g im hs)
+module _ (g : Geometry) (im : List ℕ) (s : Shape) (e : check (length im) s ≡ Ok g) (n k : ℕ) (hs : List Head) (w : Way g im hs)
     (seen : Seen g n hs k) (buf : List ℕ) (l : n ≤ length buf) where
   met_is : (search g im n).answer ≡ this seen.head
   met_is = search_seen (accepted_from (length im) s g e).laid im refl n w seen

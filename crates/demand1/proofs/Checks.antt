@@ -8,10 +8,9 @@ use native.Mathlib.Omega.{arith}
 use borrow.Author.Tests.{ltb-true, ltb-false, eqb-true, eqb-false}
 use lib.Dec.{eqb, ltb}
 use lib.ListN.{get_or}
+use Rattle.std.specs.Prelude.{Result, Ok, Err}
 use Rattle.paper.specs.declared.Shape.{Shape}
 use Rattle.paper.specs.declared.Geometry.{Geometry}
-use Rattle.paper.specs.declared.Checked.{Checked}
-use Rattle.paper.specs.declared.Checked.TheVariants.{Accepted, Refused}
 use Rattle.paper.specs.declared.Refusal.{Refusal}
 use Rattle.paper.specs.declared.Refusal.TheVariants as refusal
 use Rattle.paper.specs.Chip.{round_up}
@@ -88,9 +87,9 @@ module _ (n : ℕ) (s : Shape) where
   abbrev NoneBefore : ℕ → Type 0
   NoneBefore m = (q : Refusal) → row_number q < m → Broken n s q → ⊥
 
-  data Judged (t : Checked) : Type 0 where
-    accepts : t ≡ Accepted (geometry_of s) → ((q : Refusal) → Broken n s q → ⊥) → Judged t
-    refuses : (r : Refusal) → t ≡ Refused r → Broken n s r → NoneBefore (row_number r) → Judged t
+  data Judged (t : Result Geometry Refusal) : Type 0 where
+    accepts : t ≡ Ok (geometry_of s) → ((q : Refusal) → Broken n s q → ⊥) → Judged t
+    refuses : (r : Refusal) → t ≡ Err r → Broken n s r → NoneBefore (row_number r) → Judged t
 
   judged : (m : ℕ) (rs : List Rule) → Ruled m rs → NoneBefore m → Judged (judge s rs)
   unfolding judge
@@ -101,7 +100,7 @@ module _ (n : ℕ) (s : Shape) where
       is_row : (q : Refusal) → Broken n s q → row_number q ≡ m → q ≡ r.refusal
       is_row q b e = sym (broken_row q b).2 ∙ ap shape_row e ∙ sym x
 
-      by : (t : Bool) → Tells (Broken n s r.refusal) t → (NoneBefore (suc m) → Judged (judge s rs)) → Judged (cond t (Refused r.refusal) (judge s rs))
+      by : (t : Bool) → Tells (Broken n s r.refusal) t → (NoneBefore (suc m) → Judged (judge s rs)) → Judged (cond t (Err r.refusal) (judge s rs))
       by true (yes b) g = refuses r.refusal refl b (λ q l. f q (omega arith))
       by false (no b) g = g (λ q l c. on q c (eqb (row_number q) m) refl l)
         where
@@ -113,14 +112,14 @@ module _ (n : ℕ) (s : Shape) where
   unfolding check
   check_judged = judged 9 (rules n s) ruled (λ q l b. let z : ⊥ = omega (arith, (broken_row q b).0) in z)
 
-  pub check_refuses : (r : Refusal) → Iff (check n s ≡ Refused r) (Broken n s r × NoneBefore (row_number r))
+  pub check_refuses : (r : Refusal) → Iff (check n s ≡ Err r) (Broken n s r × NoneBefore (row_number r))
   check_refuses r = by check_judged
     where
-      by : Judged (check n s) → Iff (check n s ≡ Refused r) (Broken n s r × NoneBefore (row_number r))
+      by : Judged (check n s) → Iff (check n s ≡ Err r) (Broken n s r × NoneBefore (row_number r))
       by (accepts e f) = (λ q. never (cc), λ k. absurd (f r k.0))
       by (refuses x e b f) = (
         λ q. let z : x ≡ r = cc in subst (λ (y : Refusal). Broken n s y × NoneBefore (row_number y)) z (b, f),
-        λ k. e ∙ ap Refused (one k (eqb (row_number x) (row_number r)) refl),
+        λ k. e ∙ ap Err (one k (eqb (row_number x) (row_number r)) refl),
       )
         where
           one : Broken n s r × NoneBefore (row_number r) → (t : Bool) → eqb (row_number x) (row_number r) ≡ t → x ≡ r
@@ -131,11 +130,11 @@ module _ (n : ℕ) (s : Shape) where
               on true l = absurd (k.1 x (ltb-true (row_number x) (row_number r) l) b)
               on false l = absurd (f r (omega (arith, ltb-false (row_number x) (row_number r) l, eqb-false (row_number x) (row_number r) q)) k.0)
 
-  pub check_accepts : (g : Geometry) → Iff (check n s ≡ Accepted g) ((geometry_of s ≡ g) × ((r : Refusal) → Broken n s r → ⊥))
+  pub check_accepts : (g : Geometry) → Iff (check n s ≡ Ok g) ((geometry_of s ≡ g) × ((r : Refusal) → Broken n s r → ⊥))
   check_accepts g = by check_judged
     where
-      by : Judged (check n s) → Iff (check n s ≡ Accepted g) ((geometry_of s ≡ g) × ((r : Refusal) → Broken n s r → ⊥))
-      by (accepts e f) = (λ q. (cc, f), λ k. e ∙ ap Accepted k.0)
+      by : Judged (check n s) → Iff (check n s ≡ Ok g) ((geometry_of s ≡ g) × ((r : Refusal) → Broken n s r → ⊥))
+      by (accepts e f) = (λ q. (cc, f), λ k. e ∙ ap Ok k.0)
       by (refuses x e b f) = (λ q. never (cc), λ k. absurd (k.1 x b))
 
 pub of_shape : OfShape
@@ -143,6 +142,6 @@ unfolding requested call
 of_shape = record {
   refuses = check_refuses;
   accepts = check_accepts;
-  answered = λ s im c r e. ap (λ (t : Checked). (planned t (λ g. plan_of g im c)).answer) e;
-  unchanged = λ s im c r e. ap (λ (t : Checked). (planned t (λ g. plan_of g im c)).events) e;
+  answered = λ s im c r e. ap (λ (t : Result Geometry Refusal). (planned t (λ g. plan_of g im c)).answer) e;
+  unchanged = λ s im c r e. ap (λ (t : Result Geometry Refusal). (planned t (λ g. plan_of g im c)).events) e;
 }

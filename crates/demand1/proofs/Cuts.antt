@@ -8,10 +8,10 @@ use native.Mathlib.Omega.{arith}
 use borrow.Author.Tests.{ltb-true, lt-ltb}
 use lib.Dec.{ltb}
 use lib.ListN.{length}
+use Rattle.std.specs.Prelude.{Result, Ok, Err}
 use Rattle.paper.specs.declared.Shape.{Shape}
 use Rattle.paper.specs.declared.Geometry.{Geometry}
-use Rattle.paper.specs.declared.Checked.{Checked}
-use Rattle.paper.specs.declared.Checked.TheVariants.{Accepted, Refused}
+use Rattle.paper.specs.declared.Refusal.{Refusal}
 use Rattle.paper.specs.declared.Refusal.TheVariants as refusal
 use Rattle.paper.specs.Chip.{Event, store, erase, copy, store_count, before, Plan, plan}
 use Rattle.paper.specs.Refusals.{check, Answer, number, none, refused}
@@ -52,9 +52,9 @@ requested_uncut : (s : Shape) (im : List ℕ) (c : Call) → NotCut (requested s
 unfolding requested call
 requested_uncut s im c = by (check (length im) s) refl
   where
-    by : (t : Checked) → check (length im) s ≡ t → NotCut (planned t (λ g. plan_of g im c)).answer
-    by (Accepted g) q e = plan_uncut (accepted_from (length im) s g q).laid im refl c e
-    by (Refused r) q e = let z : r ≡ refusal.Cut = cc in ((check_refuses (length im) s refusal.Cut).0 (q ∙ ap Refused z)).0
+    by : (t : Result Geometry Refusal) → check (length im) s ≡ t → NotCut (planned t (λ g. plan_of g im c)).answer
+    by (Ok g) q e = plan_uncut (accepted_from (length im) s g q).laid im refl c e
+    by (Err r) q e = let z : r ≡ refusal.Cut = cc in ((check_refuses (length im) s refusal.Cut).0 (q ∙ ap Err z)).0
 
 -- ---- a limit
 

@@ -6,10 +6,10 @@ use Prim.Native.Nat.{ℕ, ◌-◌, ◌*◌}
 use native.Mathlib.Omega.{arith}
 use lib.Dec.{ltb}
 use lib.ListN.{length}
+use Rattle.std.specs.Prelude.{Result, Ok, Err}
 use Rattle.paper.specs.declared.Shape.{Shape}
-use Rattle.paper.specs.declared.Checked.{Checked}
-use Rattle.paper.specs.declared.Checked.TheVariants.{Accepted, Refused}
 use Rattle.paper.specs.declared.Geometry.{Geometry}
+use Rattle.paper.specs.declared.Refusal.{Refusal}
 use Rattle.paper.specs.declared.Refusal.TheVariants as refusal
 use Rattle.paper.specs.Chip.{part, Event, store_count, before, image_after, buffer_after, Plan, plan}
 use Rattle.paper.specs.Refusals.{geometry_of, check, Answer, refused}
@@ -33,7 +33,7 @@ both_for S fits im jm L = both_fit S im jm L
 both_for S spaces im jm L = both_space S im jm L
 both_for S erases_all im jm L = both_erase S
 
-events_lie : (g : Geometry) (im : List ℕ) (s : Shape) → check (length im) s ≡ Accepted g → (c : Call) → Each (Lies g) (plan_of g im c).events
+events_lie : (g : Geometry) (im : List ℕ) (s : Shape) → check (length im) s ≡ Ok g → (c : Call) → Each (Lies g) (plan_of g im c).events
 events_lie g im s e c = let S = (accepted_from (length im) s g e).laid in (both_for S c im im (alike_self S im refl)).lies
 
 -- ---- outside
@@ -47,7 +47,7 @@ module _ (s : Shape) (im : List ℕ) where
   unfolding image_after Held
   none_held = record { size = refl; below = refl; above = refl }
 
-  lie_held : (g : Geometry) → check (length im) s ≡ Accepted g → (es : List Event) → Each (Lies g) es → Held s im es
+  lie_held : (g : Geometry) → check (length im) s ≡ Ok g → (es : List Event) → Each (Lies g) es → Held s im es
   unfolding Held
   lie_held g e es h =
       let F = frame_after (accepted_from (length im) s g e).laid es im refl h in
@@ -65,9 +65,9 @@ module _ (s : Shape) (im : List ℕ) where
     unfolding requested call
     held = on (check (length im) s) refl
       where
-        on : (t : Checked) → check (length im) s ≡ t → Held s im (some (planned t (λ g. plan_of g im c)))
-        on (Accepted g) e = lie_held g e (some (plan_of g im c)) (less (Lies g) (plan_of g im c) (events_lie g im s e c))
-        on (Refused r) e = rw (none (refused r)) none_held
+        on : (t : Result Geometry Refusal) → check (length im) s ≡ t → Held s im (some (planned t (λ g. plan_of g im c)))
+        on (Ok g) e = lie_held g e (some (plan_of g im c)) (less (Lies g) (plan_of g im c) (events_lie g im s e c))
+        on (Err r) e = rw (none (refused r)) none_held
 
 -- a limited plan makes no event but the plan's
 limited_less : (k : ℕ) (P : Event → Type 0) (p : Plan Answer) → Each P p.events → Each P (limited k p).events
@@ -96,13 +96,13 @@ same_check : (k : ℕ) (s : Shape) (im : List ℕ) (c : Call) → check (length 
 unfolding Held
 same_check k s im c = ap (λ (n : ℕ). check n s) (held s im c (λ p. (limited k p).events) (limited_less k) (limited_none k)).size
 
-module _ (n : ℕ) (s : Shape) (g : Geometry) (q : check n s ≡ Accepted g) where
+module _ (n : ℕ) (s : Shape) (g : Geometry) (q : check n s ≡ Ok g) where
   size_is : s.end - s.start ≡ g.pages * g.page
   size_is = omega (arith, range_end_lem g, (accepted_from n s g q).ends_at, (accepted_from n s g q).starts_at)
 
   agree_alike : (im jm : List ℕ) → length im ≡ n → Agree s im jm → Alike g n im jm
   agree_alike im jm l A =
-      let t : check (length jm) s ≡ Accepted g = sym A.0 ∙ ap (λ (x : ℕ). check x s) l ∙ q in
+      let t : check (length jm) s ≡ Ok g = sym A.0 ∙ ap (λ (x : ℕ). check x s) l ∙ q in
       record { long = l; also = (accepted_from (length jm) s g t).laid.ends; same = rw ((accepted_from n s g q).starts_at, ← size_is) A.1 }
 
   alike_range : (im jm : List ℕ) → Alike g n im jm → SameRange s im jm
@@ -111,11 +111,11 @@ module _ (n : ℕ) (s : Shape) (g : Geometry) (q : check n s ≡ Accepted g) whe
 module _ (s : Shape) (im jm : List ℕ) (A : Agree s im jm) (c : Call) where
   no_say : requested s im c ≡ requested s jm c
   unfolding requested call
-  no_say = on (check (length im) s) refl ∙ ap (λ (t : Checked). planned t (λ g. plan_of g jm c)) A.0
+  no_say = on (check (length im) s) refl ∙ ap (λ (t : Result Geometry Refusal). planned t (λ g. plan_of g jm c)) A.0
     where
-      on : (t : Checked) → check (length im) s ≡ t → planned t (λ g. plan_of g im c) ≡ planned t (λ g. plan_of g jm c)
-      on (Refused r) q = refl
-      on (Accepted g) q = (both_for (accepted_from (length im) s g q).laid c im jm (agree_alike (length im) s g q im jm refl A)).one
+      on : (t : Result Geometry Refusal) → check (length im) s ≡ t → planned t (λ g. plan_of g im c) ≡ planned t (λ g. plan_of g jm c)
+      on (Err r) q = refl
+      on (Ok g) q = (both_for (accepted_from (length im) s g q).laid c im jm (agree_alike (length im) s g q im jm refl A)).one
 
   -- what k stores leave
   module _ (k : ℕ) where
@@ -124,10 +124,10 @@ module _ (s : Shape) (im jm : List ℕ) (A : Agree s im jm) (c : Call) where
     unfolding requested call image_after
     same_image = on (check (length im) s) refl
       where
-        on : (t : Checked) → check (length im) s ≡ t → (let es = (limited k (planned t (λ g. plan_of g im c))).events in
+        on : (t : Result Geometry Refusal) → check (length im) s ≡ t → (let es = (limited k (planned t (λ g. plan_of g im c))).events in
             SameRange s (image_after (geometry_of s) es im) (image_after (geometry_of s) es jm))
-        on (Refused r) q = rw (limited_none k (refused r)) A.1
-        on (Accepted g) q =
+        on (Err r) q = rw (limited_none k (refused r)) A.1
+        on (Ok g) q =
             let S = (accepted_from (length im) s g q).laid in
             let h = limited_less k (Lies g) (plan_of g im c) (events_lie g im s q c) in
             rw (accepted_is (length im) s g q)
@@ -137,10 +137,10 @@ module _ (s : Shape) (im jm : List ℕ) (A : Agree s im jm) (c : Call) where
     unfolding requested call buffer_after
     same_buffer buf = on (check (length im) s) refl
       where
-        on : (t : Checked) → check (length im) s ≡ t → (let es = (limited k (planned t (λ g. plan_of g im c))).events in
+        on : (t : Result Geometry Refusal) → check (length im) s ≡ t → (let es = (limited k (planned t (λ g. plan_of g im c))).events in
             buffer_after (geometry_of s) es im buf ≡ buffer_after (geometry_of s) es jm buf)
-        on (Refused r) q = rw (limited_none k (refused r))
-        on (Accepted g) q =
+        on (Err r) q = rw (limited_none k (refused r))
+        on (Ok g) q =
             let S = (accepted_from (length im) s g q).laid in
             let h = limited_less k (Lies g) (plan_of g im c) (events_lie g im s q c) in
             rw (accepted_is (length im) s g q) (alike_buffer S (limited k (plan_of g im c)).events (agree_alike (length im) s g q im jm refl A) h buf)

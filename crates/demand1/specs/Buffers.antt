@@ -1,8 +1,7 @@
 -- Demand 1: what a call leaves in the data buffer; and the places where the Rust could say LogicBug. Assumes nothing.
-use Rattle.std.specs.Prelude.{◌≡◌, Bool, true, cond, ℕ, ◌+◌, ◌-◌, ◌≤◌, ◌<◌, length, take, drop}
+use Rattle.std.specs.Prelude.{◌≡◌, Bool, true, cond, ℕ, ◌+◌, ◌-◌, ◌≤◌, ◌<◌, length, take, drop, Ok, Err}
 use mathlib.Core.List.{List, [], ◌∷◌, ◌++◌, Memᴰ}
 use Rattle.paper.specs.declared.Shape.{Shape}
-use Rattle.paper.specs.declared.Checked.TheVariants.{Accepted, Refused}
 use Rattle.paper.specs.declared.Geometry.{Geometry}
 use Rattle.paper.specs.Chip.{round_up, round_down, header_size, Event, store, erase, copy, before, buffer_after, Plan}
 use Rattle.paper.specs.Scan.{Head, live}
@@ -48,7 +47,7 @@ pub record OfCopies (g : Geometry) (im : List ℕ) (n : ℕ) (p : Plan Answer) :
 pub record OfBuffer : Type 0 where
   -- "On refusals 2, 3 and 9 to 17 the data buffer keeps its bytes": a push copies nothing, and a refused shape does nothing
   pub push_keeps : (g : Geometry) (im slip buf : List ℕ) (over : Bool) → buffer_after g (plan_of g im (pushes slip over)).events im buf ≡ buf
-  pub shape_keeps : (s : Shape) (im buf : List ℕ) (c : Call) (r : Refusal) → check (length im) s ≡ Refused r
+  pub shape_keeps : (s : Shape) (im buf : List ℕ) (c : Call) (r : Refusal) → check (length im) s ≡ Err r
       → buffer_after (geometry_of s) (requested s im c).events im buf ≡ buf
   -- the copies of a peek or pop fit the buffer, cut or not, and "bytes past the longest copy stay"
   pub peek_fits : (g : Geometry) (im : List ℕ) (n : ℕ) → Each (CopiesAtMost n) (peek g im n).events
@@ -57,13 +56,13 @@ pub record OfBuffer : Type 0 where
   pub tail_stays : (g : Geometry) (im buf : List ℕ) (es : List Event) (m : ℕ) → Each (CopiesAtMost m) es → m ≤ length buf
       → (length (buffer_after g es im buf) ≡ length buf) × (drop m (buffer_after g es im buf) ≡ drop m buf)
   -- "A done peek or pop shows the first `length` bytes of that buffer": the payload of the item that is seen
-  pub peek_shows : (g : Geometry) (im : List ℕ) (s : Shape) → check (length im) s ≡ Accepted g → (n k : ℕ) (hs : List Head) → Way g im hs
+  pub peek_shows : (g : Geometry) (im : List ℕ) (s : Shape) → check (length im) s ≡ Ok g → (n k : ℕ) (hs : List Head) → Way g im hs
       → (seen : Seen g n hs k) (buf : List ℕ) → n ≤ length buf → take k (buffer_after g (peek g im n).events im buf) ≡ seen.head.body
-  pub pop_shows : (g : Geometry) (im : List ℕ) (s : Shape) → check (length im) s ≡ Accepted g → (n k : ℕ) (hs : List Head) → Way g im hs
+  pub pop_shows : (g : Geometry) (im : List ℕ) (s : Shape) → check (length im) s ≡ Ok g → (n k : ℕ) (hs : List Head) → Way g im hs
       → (seen : Seen g n hs k) (buf : List ℕ) → n ≤ length buf → take k (buffer_after g (pop g im n).events im buf) ≡ seen.head.body
   -- what they copy
-  pub peek_copies : (g : Geometry) (im : List ℕ) (s : Shape) → check (length im) s ≡ Accepted g → (n : ℕ) → OfCopies g im n (peek g im n)
-  pub pop_copies : (g : Geometry) (im : List ℕ) (s : Shape) → check (length im) s ≡ Accepted g → (n : ℕ) → OfCopies g im n (pop g im n)
+  pub peek_copies : (g : Geometry) (im : List ℕ) (s : Shape) → check (length im) s ≡ Ok g → (n : ℕ) → OfCopies g im n (peek g im n)
+  pub pop_copies : (g : Geometry) (im : List ℕ) (s : Shape) → check (length im) s ≡ Ok g → (n : ℕ) → OfCopies g im n (pop g im n)
 
 -- a read is a copy of the rounded payload of a live header of a list
 abbrev pub ReadOf : Geometry → List Head → Event → Type 0
@@ -81,4 +80,4 @@ pub record NoLogicBug : Type 0 where
   pub reborrows_pop : (g : Geometry) (im : List ℕ) (n k : ℕ) → (pop g im n).answer ≡ shown k → k ≤ n
   -- write_raw: the payload splits at the last whole word; its tail is shorter than a word, and rounded up it fits 32 bytes
   pub splits : (w n : ℕ) → 0 < w → (round_down w n ≤ n) × (n - round_down w n < w)
-  pub extends : (g : Geometry) (im : List ℕ) (s : Shape) → check (length im) s ≡ Accepted g → (n : ℕ) → round_up g.word (n - round_down g.word n) ≤ 32
+  pub extends : (g : Geometry) (im : List ℕ) (s : Shape) → check (length im) s ≡ Ok g → (n : ℕ) → round_up g.word (n - round_down g.word n) ≤ 32

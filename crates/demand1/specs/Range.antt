@@ -1,7 +1,6 @@
 -- Demand 1: where events lie, and what bytes outside the range have to do with a call. Assumes nothing.
-use Rattle.std.specs.Prelude.{◌≡◌, List, ℕ, ◌+◌, ◌-◌, ◌%◌, ◌≤◌, ◌<◌, length, take, drop}
+use Rattle.std.specs.Prelude.{◌≡◌, List, ℕ, ◌+◌, ◌-◌, ◌%◌, ◌≤◌, ◌<◌, length, take, drop, Ok}
 use Rattle.paper.specs.declared.Shape.{Shape}
-use Rattle.paper.specs.declared.Checked.TheVariants.{Accepted}
 use Rattle.paper.specs.declared.Geometry.{Geometry}
 use Rattle.paper.specs.Chip.{range_end, part, Event, store, erase, copy, image_after, buffer_after}
 use Rattle.paper.specs.Refusals.{geometry_of, check}
@@ -35,7 +34,7 @@ abbrev pub buffer_limit : ℕ → Shape → List ℕ → Call → List ℕ → L
 buffer_limit k s im c buf = buffer_after (geometry_of s) (limited k (requested s im c)).events im buf
 
 pub record InRange : Type 0 where
-  pub events_lie : (g : Geometry) (im : List ℕ) (s : Shape) → check (length im) s ≡ Accepted g → (c : Call) → Each (Lies g) (plan_of g im c).events
+  pub events_lie : (g : Geometry) (im : List ℕ) (s : Shape) → check (length im) s ≡ Ok g → (c : Call) → Each (Lies g) (plan_of g im c).events
   pub outside_whole : (s : Shape) (im : List ℕ) (c : Call) → Outside s im (image_left s im c)
   pub outside_limited : (k : ℕ) (s : Shape) (im : List ℕ) (c : Call) → Outside s im (image_limit k s im c)
   -- ".. and have no say": on images that agree on the range a call has the same events and answer, leaves images that agree, and the same

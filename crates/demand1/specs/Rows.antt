@@ -1,8 +1,7 @@
 -- Demand 1: rows 0 to 7 of the table of refusals: given exactly when, and the image afterwards. Assumes nothing.
-use Rattle.std.specs.Prelude.{◌≡◌, Bool, false, List, [], ◌∷◌, ◌++◌, ◌⊎◌, ℕ, ◌+◌, ◌*◌, ◌<◌, length}
+use Rattle.std.specs.Prelude.{◌≡◌, Bool, false, List, [], ◌∷◌, ◌++◌, ◌⊎◌, ℕ, ◌+◌, ◌*◌, ◌<◌, length, Ok}
 use Rattle.paper.specs.declared.Shape.{Shape}
 use Rattle.paper.specs.declared.Refusal.TheVariants as refusal
-use Rattle.paper.specs.declared.Checked.TheVariants.{Accepted}
 use Rattle.paper.specs.declared.Geometry.{Geometry}
 use Rattle.paper.specs.Chip.{header_size, Event, store, erase, copy, image_after, store_count, before, Plan, Try, gives}
 use Rattle.paper.specs.Scan.{Head, page_walk, payloads}
@@ -104,9 +103,9 @@ pub record OfCount (g : Geometry) (im : List ℕ) (count : List ℕ → Try Unit
 
 pub record Rows : Type 0 where
   pub of_cut : OfCut
-  pub of_push : (g : Geometry) (im : List ℕ) (s : Shape) → check (length im) s ≡ Accepted g → (slip : List ℕ) (over : Bool) → OfPush g im slip over (push g im slip over)
-  pub of_peek : (g : Geometry) (im : List ℕ) (s : Shape) → check (length im) s ≡ Accepted g → (n : ℕ) → OfSearch g im n (peek g im n)
-  pub of_pop : (g : Geometry) (im : List ℕ) (s : Shape) → check (length im) s ≡ Accepted g → (n : ℕ) → OfSearch g im n (pop g im n)
-  pub of_fit : (g : Geometry) (im : List ℕ) (s : Shape) → check (length im) s ≡ Accepted g → OfCount g im (fit g) (find_max_fit g im)
-  pub of_space : (g : Geometry) (im : List ℕ) (s : Shape) → check (length im) s ≡ Accepted g → OfCount g im (space g) (space_left g im)
+  pub of_push : (g : Geometry) (im : List ℕ) (s : Shape) → check (length im) s ≡ Ok g → (slip : List ℕ) (over : Bool) → OfPush g im slip over (push g im slip over)
+  pub of_peek : (g : Geometry) (im : List ℕ) (s : Shape) → check (length im) s ≡ Ok g → (n : ℕ) → OfSearch g im n (peek g im n)
+  pub of_pop : (g : Geometry) (im : List ℕ) (s : Shape) → check (length im) s ≡ Ok g → (n : ℕ) → OfSearch g im n (pop g im n)
+  pub of_fit : (g : Geometry) (im : List ℕ) (s : Shape) → check (length im) s ≡ Ok g → OfCount g im (fit g) (find_max_fit g im)
+  pub of_space : (g : Geometry) (im : List ℕ) (s : Shape) → check (length im) s ≡ Ok g → OfCount g im (space g) (space_left g im)
   pub of_erase : (g : Geometry) → (erase_all g).answer ≡ done

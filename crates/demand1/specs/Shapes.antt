@@ -1,8 +1,7 @@
 -- Demand 1: rows 9 to 17, the check of a shape: given exactly when, in plain numbers; and the image afterwards. Assumes nothing.
-use Rattle.std.specs.Prelude.{◌≡◌, List, [], ◌⊎◌, ℕ, ◌+◌, ◌-◌, ◌*◌, ◌/◌, ◌%◌, ◌<◌, length, get_or}
+use Rattle.std.specs.Prelude.{◌≡◌, List, [], ◌⊎◌, ℕ, ◌+◌, ◌-◌, ◌*◌, ◌/◌, ◌%◌, ◌<◌, length, get_or, Ok, Err}
 use Rattle.paper.specs.declared.Shape.{Shape}
 use Rattle.paper.specs.declared.Geometry.{Geometry}
-use Rattle.paper.specs.declared.Checked.TheVariants.{Accepted, Refused}
 use Rattle.paper.specs.declared.Refusal.{Refusal}
 use Rattle.paper.specs.declared.Refusal.TheVariants as refusal
 use Rattle.paper.specs.Chip.{round_up}
@@ -38,8 +37,8 @@ Broken n s refusal.OutsideImage = n < s.end
 pub record OfShape : Type 0 where
   -- "9 comes first, then 10 to 17 in order": the refusal is the broken row of the least number
   pub refuses : (n : ℕ) (s : Shape) (r : Refusal)
-      → Iff (check n s ≡ Refused r) (Broken n s r × ((q : Refusal) → row_number q < row_number r → Broken n s q → ⊥))
-  pub accepts : (n : ℕ) (s : Shape) (g : Geometry) → Iff (check n s ≡ Accepted g) ((geometry_of s ≡ g) × ((r : Refusal) → Broken n s r → ⊥))
+      → Iff (check n s ≡ Err r) (Broken n s r × ((q : Refusal) → row_number q < row_number r → Broken n s q → ⊥))
+  pub accepts : (n : ℕ) (s : Shape) (g : Geometry) → Iff (check n s ≡ Ok g) ((geometry_of s ≡ g) × ((r : Refusal) → Broken n s r → ⊥))
   -- "unchanged": a call on a shape that is refused answers the refusal and does nothing
-  pub answered : (s : Shape) (im : List ℕ) (c : Call) (r : Refusal) → check (length im) s ≡ Refused r → (requested s im c).answer ≡ refused r
-  pub unchanged : (s : Shape) (im : List ℕ) (c : Call) (r : Refusal) → check (length im) s ≡ Refused r → (requested s im c).events ≡ []
+  pub answered : (s : Shape) (im : List ℕ) (c : Call) (r : Refusal) → check (length im) s ≡ Err r → (requested s im c).answer ≡ refused r
+  pub unchanged : (s : Shape) (im : List ℕ) (c : Call) (r : Refusal) → check (length im) s ≡ Err r → (requested s im c).events ≡ []

@@ -1,8 +1,7 @@
 -- Both premises of demand 3 are needed: a history without each of them, in which the list is not what the calls say. And they can be met:
 -- a history with cuts in which all that is assumed holds. And on one page a torn slip can fill the page. Assumes nothing.
-use Rattle.std.specs.Prelude.{◌≡◌, false, List, [], ◌∷◌, ℕ, take, replicate}
+use Rattle.std.specs.Prelude.{◌≡◌, false, List, [], ◌∷◌, ℕ, take, replicate, Ok}
 use Rattle.paper.specs.declared.Geometry.{Geometry}
-use Rattle.paper.specs.declared.Checked.TheVariants.{Accepted}
 use Rattle.paper.specs.declared.Refusal.TheVariants as refusal
 use Rattle.paper.specs.Refusals.{check, done, refused}
 use Rattle.paper.specs.Calls.{Call, pushes, pops, plan_of}
@@ -30,7 +29,7 @@ ambiguous = 0x64 ∷ 0x04 ∷ 0x00 ∷ 0x00 ∷ 0x0e ∷ 0x89 ∷ 0x13 ∷ 0xfa 
 
 pub record PremisesNeeded : Type 0 where
   -- the page's shape is one that the check accepts
-  pub accepted : check 32 (record { start = 0; end = 32; page = 32; word = 4 }) ≡ Accepted sheet
+  pub accepted : check 32 (record { start = 0; end = 32; page = 32; word = 4 }) ≡ Ok sheet
   -- the push is done, and its slip is not on the list: the scan accepts an address that it refused before
   pub said : (plan_of sheet half_header (pushes unlucky false)).answer ≡ done
   pub lost : waiting sheet (image_next sheet half_header (pushes unlucky false) whole) ≡ []
@@ -86,7 +85,7 @@ mishaps =
 
 pub record PremisesMet : Type 0 where
   -- the range is one that a history may begin with, and every premise holds of every call
-  pub accepted : check 48 (record { start = 0; end = 48; page = 48; word = 4 }) ≡ Accepted strip
+  pub accepted : check 48 (record { start = 0; end = 48; page = 48; word = 4 }) ≡ Ok strip
   pub erased : Erased strip blank_strip
   pub fair : AllFair strip blank_strip no_ghost mishaps
   -- so that demand 3 speaks of what this history leaves
@@ -117,7 +116,7 @@ filled_slate = image_of slate blank_slate torn_push
 
 -- on one page `Room.peek_frees` and `pop_frees` do not hold: nothing waits, and a push of nothing is refused
 pub record SoleFull : Type 0 where
-  pub accepted : check 20 (record { start = 0; end = 20; page = 20; word = 4 }) ≡ Accepted slate
+  pub accepted : check 20 (record { start = 0; end = 20; page = 20; word = 4 }) ≡ Ok slate
   pub reached : Reached slate filled_slate (ghost_of slate blank_slate no_ghost torn_push)
   pub none : waiting slate filled_slate ≡ []
   pub is_refused : (plan_of slate filled_slate (pushes [] false)).answer ≡ refused refusal.FullStorage

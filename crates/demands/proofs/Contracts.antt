@@ -5,10 +5,10 @@ use mathlib.Core.List.{List}
 use Prim.Native.Nat.{ℕ}
 use lib.Dec.{ltb}
 use lib.ListN.{length}
+use Rattle.std.specs.Prelude.{Ok}
 use Rattle.paper.specs.declared.Geometry.{Geometry}
 use Rattle.paper.specs.declared.Shape.{Shape}
 use Rattle.paper.specs.declared.Refusal.TheVariants as refusal
-use Rattle.paper.specs.declared.Checked.TheVariants.{Accepted}
 use Rattle.paper.specs.Chip.{buffer_after, store_count, before, Plan, plan}
 use Rattle.paper.specs.Refusals.{geometry_of, check, Answer, refused}
 use Rattle.paper.specs.Calls.{Call, pushes, peeks, pops, fits, spaces, erases_all, plan_of, call, requested, limited}
@@ -49,7 +49,7 @@ module _ (s : Shape) (i o e : List ℕ) (x : Answer) where
 
 -- ---- on an accepted shape
 
-pub accepted_as : (s : Shape) (im : List ℕ) (c : Call) (g : Geometry) → check (length im) s ≡ Accepted g → requested s im c ≡ plan_of g im c
+pub accepted_as : (s : Shape) (im : List ℕ) (c : Call) (g : Geometry) → check (length im) s ≡ Ok g → requested s im c ≡ plan_of g im c
 unfolding requested call
 accepted_as s im c g q = rw q
 

@@ -4,10 +4,10 @@ use mathlib.Core.List.{List, []}
 use Prim.Native.Nat.{ℕ, ◌<◌}
 use native.Mathlib.Omega.{arith}
 use lib.ListN.{length}
+use Rattle.std.specs.Prelude.{Err}
 use Rattle.paper.specs.declared.Shape.{Shape}
 use Rattle.paper.specs.declared.Refusal.{Refusal}
 use Rattle.paper.specs.declared.Refusal.TheVariants as refusal
-use Rattle.paper.specs.declared.Checked.TheVariants.{Refused}
 use Rattle.paper.specs.Chip.{image_after, store_count, Plan}
 use Rattle.paper.specs.Refusals.{geometry_of, check, Answer, refused}
 use Rattle.paper.specs.Calls.{Call, requested, limited}
@@ -45,7 +45,7 @@ uncut (within k) p n = demand1.rows.of_cut.whole k p (λ l. let z = ap store_cou
 -- ---- each of its parts
 
 module _ (s : Shape) (f : Form) (c : Call) (i o e : List ℕ) (x : Answer) (h : Promised s f c i o e x) where
-  shape_of : (r : Refusal) → check (length i) s ≡ Refused r → (x ≡ refused r) × (o ≡ i)
+  shape_of : (r : Refusal) → check (length i) s ≡ Err r → (x ≡ refused r) × (o ≡ i)
   unfolding image_after
   shape_of r q =
       let w = whole_of s i o e x f c h in

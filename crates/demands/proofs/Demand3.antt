@@ -3,9 +3,9 @@ use mathlib.Core.Path.{◌≡◌, refl, sym, ap, subst, ◌∙◌}
 use mathlib.Core.List.{List}
 use Prim.Native.Nat.{ℕ}
 use lib.ListN.{length, take}
+use Rattle.std.specs.Prelude.{Ok}
 use Rattle.paper.specs.declared.Geometry.{Geometry}
 use Rattle.paper.specs.declared.Shape.{Shape}
-use Rattle.paper.specs.declared.Checked.TheVariants.{Accepted}
 use Rattle.paper.specs.Chip.{buffer_after, before, Plan}
 use Rattle.paper.specs.Refusals.{check, Answer}
 use Rattle.paper.specs.Calls.{Call, plan_of, requested}
@@ -20,7 +20,7 @@ use Rattle.demands.proofs.Demand1.{outside_of}
 
 -- ---- one call on an accepted shape
 
-module _ (s : Shape) (g : Geometry) (im : List ℕ) (a : check (length im) s ≡ Accepted g) (f : Form) (c : Call) where
+module _ (s : Shape) (g : Geometry) (im : List ℕ) (a : check (length im) s ≡ Ok g) (f : Form) (c : Call) where
   -- its form makes the events that its power lets through
   events_of_lem : (formed f (requested s im c)).events ≡ events_of g im c (power_of s im f c)
   unfolding events_of
@@ -41,7 +41,7 @@ module _ (s : Shape) (g : Geometry) (im : List ℕ) (a : check (length im) s ≡
 
 pub record AsPlans (s : Shape) (g : Geometry) (im : List ℕ) (gh : Ghost) : Type 0 where
   pub reached : Reached g im gh
-  pub accepted : check (length im) s ≡ Accepted g
+  pub accepted : check (length im) s ≡ Ok g
 
 pub comes : {s : Shape} {g : Geometry} {im : List ℕ} {gh : Ghost} → Played s g im gh → AsPlans s g im gh
 comes {s} (begins a e) = record { reached = fresh s a e; accepted = a }

@@ -3,9 +3,9 @@ use mathlib.Core.Path.{◌≡◌, sym, ap, subst, ◌∙◌}
 use mathlib.Core.List.{List, []}
 use Prim.Native.Nat.{ℕ, ◌≤◌}
 use lib.ListN.{length}
+use Rattle.std.specs.Prelude.{Ok}
 use Rattle.paper.specs.declared.Geometry.{Geometry}
 use Rattle.paper.specs.declared.Shape.{Shape}
-use Rattle.paper.specs.declared.Checked.TheVariants.{Accepted}
 use Rattle.paper.specs.Chip.{data_size, Plan}
 use Rattle.paper.specs.Refusals.{check, Answer, empty}
 use Rattle.paper.specs.Calls.{Call, pushes, peeks, pops, fits, spaces, erases_all, plan_of}
@@ -19,7 +19,7 @@ use Rattle.demands.proofs.Contracts.{whole_of, accepted_as}
 use Rattle.demands.proofs.Demand1.{outside_of}
 use Rattle.demands.proofs.Demand3.{image_of_lem, AsPlans, comes}
 
-module _ (s : Shape) (g : Geometry) (im : List ℕ) (a : check (length im) s ≡ Accepted g) where
+module _ (s : Shape) (g : Geometry) (im : List ℕ) (a : check (length im) s ≡ Ok g) where
   -- a whole call answers as its plan does
   answer_of : (c : Call) (o e : List ℕ) (x : Answer) → Promised s unlimited c im o e x → x ≡ (plan_of g im c).answer
   answer_of c o e x h = (whole_of s im o e x unlimited c h).answer ∙ ap (λ (p : Plan Answer). p.answer) (accepted_as s im c g a)
@@ -28,8 +28,8 @@ module _ (s : Shape) (g : Geometry) (im : List ℕ) (a : check (length im) s ≡
   takes_any f slip t o e x h = answer_of (pushes slip _) o e x h ∙ f slip t
 
 -- what a whole call left is accepted too
-accepted_then : (s : Shape) (g : Geometry) (im : List ℕ) → check (length im) s ≡ Accepted g → (c : Call) (o e : List ℕ) (x : Answer)
-    → Promised s unlimited c im o e x → check (length o) s ≡ Accepted g
+accepted_then : (s : Shape) (g : Geometry) (im : List ℕ) → check (length im) s ≡ Ok g → (c : Call) (o e : List ℕ) (x : Answer)
+    → Promised s unlimited c im o e x → check (length o) s ≡ Ok g
 accepted_then s g im a c o e x h = ap (λ (n : ℕ). check n s) (outside_of s im o e x unlimited c h).size ∙ a
 
 module _ (s : Shape) (g : Geometry) (im : List ℕ) (gh : Ghost) (C : AsPlans s g im gh) where

@@ -1,10 +1,9 @@
 -- Demands 1 and 3, of the public calls. Assumes nothing.
-use Rattle.std.specs.Prelude.{◌≡◌, false, List, [], ◌⊎◌, ℕ, ◌≤◌, ◌<◌, length}
+use Rattle.std.specs.Prelude.{◌≡◌, false, List, [], ◌⊎◌, ℕ, ◌≤◌, ◌<◌, length, Ok, Err}
 use Rattle.paper.specs.declared.Geometry.{Geometry}
 use Rattle.paper.specs.declared.Shape.{Shape}
 use Rattle.paper.specs.declared.Refusal.{Refusal}
 use Rattle.paper.specs.declared.Refusal.TheVariants as refusal
-use Rattle.paper.specs.declared.Checked.TheVariants.{Accepted, Refused}
 use Rattle.paper.specs.Chip.{data_size, store_count, gives}
 use Rattle.paper.specs.Scan.{page_walk, any_live}
 use Rattle.paper.specs.Pages.{next, youngest}
@@ -24,7 +23,7 @@ pub record OfOne (s : Shape) (f : Form) (c : Call) (i o e : List ℕ) (x : Answe
   -- "touches nothing outside its range"
   pub outside : Outside s i o
   -- a shape that is refused: by its row, and nothing is stored
-  pub shape : (r : Refusal) → check (length i) s ≡ Refused r → (x ≡ refused r) × (o ≡ i)
+  pub shape : (r : Refusal) → check (length i) s ≡ Err r → (x ≡ refused r) × (o ≡ i)
   -- "cut": exactly where the limit is less than the number of the call's stores
   pub cut : Iff (x ≡ refused refusal.Cut) ((k : ℕ) × (f ≡ within k) × (k < store_count (requested s i c).events))
   -- bytes outside the range "have no say"
@@ -44,7 +43,7 @@ Keeps g c (cut_after k) i o e x =
     × ((waiting g o ≡ waiting g i) ⊎ (waiting g o ≡ list_after c (plan_of g i c).answer (waiting g i)))
 
 pub record Demand3OfCalls : Type 0 where
-  pub starts : (s : Shape) (g : Geometry) (im : List ℕ) → check (length im) s ≡ Accepted g → Erased g im → waiting g im ≡ []
+  pub starts : (s : Shape) (g : Geometry) (im : List ℕ) → check (length im) s ≡ Ok g → Erased g im → waiting g im ≡ []
   -- every image of a history has a list
   pub lists : (s : Shape) (g : Geometry) (im : List ℕ) (gh : Ghost) → Played s g im gh → list_of g im ≡ gives (waiting g im)
   pub keeps : (s : Shape) (g : Geometry) (im : List ℕ) (gh : Ghost) → Played s g im gh → (f : Form) (c : Call) → Fair g im gh c (power_of s im f c)

@@ -1,8 +1,7 @@
 -- Histories of public calls, each whole or with a limit, by what their contracts promise about image, buffer and answer. Assumes nothing.
-use Rattle.std.specs.Prelude.{◌≡◌, cond, List, [], ℕ, ltb, length}
+use Rattle.std.specs.Prelude.{◌≡◌, cond, List, [], ℕ, ltb, length, Ok}
 use Rattle.paper.specs.declared.Geometry.{Geometry}
 use Rattle.paper.specs.declared.Shape.{Shape}
-use Rattle.paper.specs.declared.Checked.TheVariants.{Accepted}
 use Rattle.paper.specs.Chip.{store_count}
 use Rattle.paper.specs.Refusals.{check, Answer}
 use Rattle.paper.specs.Calls.{Call, pushes, peeks, pops, fits, spaces, erases_all, requested}
@@ -47,6 +46,6 @@ power_of s im (within k) c = cond (ltb k (store_count (requested s im c).events)
 -- the images that a history of public calls comes to, from an erased range, "with one geometry throughout"; each call is fair: what demand
 -- 3 assumes of it, and no more
 pub data Played (s : Shape) (g : Geometry) : List ℕ → Ghost → Type 0 where
-  begins : {im : List ℕ} → check (length im) s ≡ Accepted g → Erased g im → Played s g im (record { begun = []; refused_before = [] })
+  begins : {im : List ℕ} → check (length im) s ≡ Ok g → Erased g im → Played s g im (record { begun = []; refused_before = [] })
   goes_on : {im : List ℕ} {gh : Ghost} (f : Form) (c : Call) (o e : List ℕ) (x : Answer) → Played s g im gh → Fair g im gh c (power_of s im f c)
       → Promised s f c im o e x → Played s g o (ghost_next g im gh c (power_of s im f c))
