@@ -1,6 +1,4 @@
 // The two checksums, on inputs whose answers the Rust crate gave: oracle/checksums makes stdin and stdout.
-ghost use Rattle.std.specs.Prelude.{◌≤◌, length};
-
 use std::io::{self, BufRead, ErrorKind, Read, Write};
 
 // Prints the published check value of CRC-32C, which starts from all ones.
@@ -32,19 +30,15 @@ fn next_case<R: BufRead, W: Write>(input: &mut R, output: &mut W) -> io::Result<
     }
     let mut space = [0u8; 65536];
     let size = usize::from(u16::from_le_bytes(field));
-    read_bytes(input, output, size, &mut space)
+    read_bytes(input, output, &mut space[..size])
 }
 
-// Reads the bytes of a case to the front of space, and prints its line.
+// Reads the bytes of a case, and prints its line.
 fn read_bytes<R: Read, W: Write>(
     input: &mut R,
     output: &mut W,
-    size: usize,
-    space: &mut [u8],
-) -> io::Result<bool>
-    requires { size ≤ length space.old }
-{
-    let bytes = &mut space[..size];
+    bytes: &mut [u8],
+) -> io::Result<bool> {
     if !fills(input, bytes)? {
         return refuse(output);
     }

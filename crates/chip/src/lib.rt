@@ -161,6 +161,8 @@ fn check_limits(n: usize, s: Shape) -> Result<Geometry, Refusal>
 // Most functions ask for a good geometry, and where an image is lent for one that lies in it, by a clause: the facts join the geometry with the
 // image's length and with page numbers. A struct that holds the lent image, the budget and the geometry was tried (docs/DESIGN-PASS.md, 5):
 // it saves that clause, and takes three others, for what a call leaves in it.
+//
+// A u32 becomes a usize by `as`, here and in the crates above: there is no `From` for that, as in Rust.
 
 // round_up_to_alignment. The word may be any number but 0, since the check rounds before it has looked at the word.
 pub fn round_up(n: usize, w: usize) -> usize
@@ -276,6 +278,7 @@ pub fn store_word(
 {
     budget.pay()?;
     let a = at.0 as usize;
+    // the image by its index: its `iter_mut`, zipped with the word, was tried, and behind the loop nothing was known of the image
     for (i, byte) in word.iter().enumerate() {
         image[a + i] &= *byte;
     }

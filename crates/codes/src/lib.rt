@@ -8,7 +8,7 @@ ghost use Rattle.codes.specs.Codes.{code, row_code, code_of};
 
 use paper::Refusal;
 
-// Lengths and sizes are far below 2^32; the remainder keeps the sum within 64 bits for any number.
+// Lengths and sizes are far below 2^32; the remainder keeps the sum within 64 bits for any number. There is no `From` from usize to u64.
 #[tactic(auto, unfolding(crate::specs::Codes::code))]
 pub fn coded(row: u64, value: usize) -> u64
     requires { row < 4294967296 }

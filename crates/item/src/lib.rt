@@ -1,6 +1,6 @@
 // Items on flash: a header and its payload, read and written, and the scan that goes from header to header. As in the Rust's src/item.rs,
 // start and end addresses are those of a page's data: page marks stand outside. They are handed on as two, with the fact that the data lies in
-// the image (`Inside`): a struct for the two would not have the image, which the fact is about.
+// the image (`Inside`), as an item's address goes with its length (`Room`): a struct for the two would not have the image, which the fact is about.
 #![tactic(auto)]
 
 ghost use Rattle.std.specs.Prelude.{◌≡◌, ◌+◌, ◌-◌, ◌≤◌, ◌<◌, length, take};
@@ -218,6 +218,7 @@ impl ItemHeader {
         requires { Good g × (address.0 + header_size g < 4294967296) }
         ensures { result.0 ≡ address.0 + header_size g }
     {
+        // it fits, and so does the size below: no `try_from`, whose error never comes
         further(address, chip::header_size(g) as u32)
     }
 

@@ -39,6 +39,8 @@ fn main(rt: HostRuntime) -> io::Result<()> {
     output.flush()
 }
 
+// Input, output, the room and what is lent go along as four words: a struct that holds the four would be taken apart at each use.
+//
 // A proved loop has to end, and nothing says that the input does. So the loop counts its turns, up to a number that no run reaches.
 fn replay<R: BufRead, W: Write>(
     input: &mut R,

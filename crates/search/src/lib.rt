@@ -112,7 +112,7 @@ fn find_start_address(image: &[u8], g: Geometry) -> Result<Page, Corrupted>
     page::find_oldest_page(image, table, g)
 }
 
-// QueueIterator::new: the states are read anew after a repair. Its three lines are its own (page::try_general_repair says why).
+// QueueIterator::new: the states are read anew after a repair. These lines are its own (page::try_general_repair says why).
 pub fn find_start(image: &mut [u8], budget: &mut Budget, g: Geometry) -> Result<Page, Failure>
     requires { Within g (length image.old) }
     ensures { Stores (λ im. started_as) (λ n. ChosenIn g) g budget.old (with_repair g (start_step g) tt image.old) image.old image.new (spent result budget.new) result }
@@ -127,7 +127,8 @@ pub fn find_start(image: &mut [u8], budget: &mut Budget, g: Geometry) -> Result<
 // ---- finding the next item
 //
 // The oldest page, `clears` and where the search stands go through four functions, and are one struct in the Rust. Lent as one, its steps
-// would have to promise that two of them stay: request 1/14 has it by value, as document 01 asks.
+// would have to promise that two of them stay, and its fact (`StandIn`) is about the geometry too: request 1/14 has it by value, as document 01
+// asks.
 
 // QueueIterator::next: what failed is run once more from where it stood, on a repaired image. `clears` says whether the pages that it leaves
 // are erased: in the Rust, whether its previous_item_states are AllPopped. Where the search stands is lent: it moves on with each turn, and
