@@ -1,6 +1,6 @@
 -- The whole call is a run without a limit, and the limited call a run with one: so what a run comes to, cut or not. Assumes nothing.
 use mathlib.Core.Path.{◌≡◌, refl, sym, ap, ◌∙◌}
-use mathlib.Core.Bool.{true, false, false≢true}
+use mathlib.Core.Bool.{Bool, true, false, cond, false≢true}
 use mathlib.Core.List.{List, []}
 use Prim.Native.Nat.{ℕ}
 use lib.Dec.{ltb}
@@ -11,7 +11,7 @@ use Rattle.paper.specs.Chip.{Event, store_count, Plan}
 use Rattle.paper.specs.Refusals.{Answer, refused}
 use Rattle.paper.specs.Calls.{limited}
 use Rattle.chip.specs.declared.Budget.{Budget}
-use Rattle.chip.specs.Run.{Spent, made, spend, Did, Ran, Showed, Whole, WholeShown, under}
+use Rattle.chip.specs.Run.{Spent, made, spend, Did, Ran, Showed, Whole, WholeShown, under, unless_cut}
 use Rattle.chip.proofs.Running.{did_image, acted_buffer}
 use Rattle.chip.proofs.Binding.{ran_of, showed_of}
 
@@ -68,9 +68,19 @@ module _ {g : Geometry} {i o d e : List ℕ} {r : Spent} {x : Answer} (b : Budge
       go (Some k) h = showed_limited_done k p h t
       go None h = showed_whole t h
 
+  pub showed_under : Showed g b p i o d e r x → WholeShown g (under b p) i o d e (unless_cut r x)
+  showed_under h = go r.cut refl
+    where
+      go : (c : Bool) → r.cut ≡ c → WholeShown g (under b p) i o d e (cond c (refused refusal.Cut) x)
+      go true t = showed_under_cut h t
+      go false t = showed_under_done h t
+
 module _ {g : Geometry} {i o : List ℕ} {r : Spent} {x : Answer} (b : Budget) (p : Plan Answer) where
   pub under_cut : Ran g b p i o r x → r.cut ≡ true → Whole g (under b p) i o (refused refusal.Cut)
   under_cut h t = (showed_under_cut b p (showed_of [] h) t).whole
 
   pub under_done : Ran g b p i o r x → r.cut ≡ false → Whole g (under b p) i o x
   under_done h t = (showed_under_done b p (showed_of [] h) t).whole
+
+  pub ran_under : Ran g b p i o r x → Whole g (under b p) i o (unless_cut r x)
+  ran_under h = (showed_under b p (showed_of [] h)).whole

@@ -1,10 +1,10 @@
 -- What storing functions promise: the events of a list or of a plan, as far as a budget of stores lets them through. Assumes nothing.
-use Rattle.std.specs.Prelude.{◌≡◌, Bool, true, false, List, ℕ, ◌-◌, ltb, Option, Some, None, Result, Ok, Err}
+use Rattle.std.specs.Prelude.{◌≡◌, Bool, true, false, cond, List, ℕ, ◌-◌, ltb, Option, Some, None, Result, Ok, Err}
 use Rattle.paper.specs.declared.Geometry.{Geometry}
 use Rattle.paper.specs.Chip.{Event, image_after, buffer_after, store_count, before, Plan}
 use Rattle.paper.specs.declared.Refusal.{Refusal}
 use Rattle.paper.specs.declared.Refusal.TheVariants as refusal
-use Rattle.paper.specs.Refusals.{Answer}
+use Rattle.paper.specs.Refusals.{Answer, refused}
 use Rattle.paper.specs.Calls.{limited}
 use Rattle.chip.specs.declared.Budget.{Budget}
 use Rattle.chip.specs.declared.Cut.{Cut}
@@ -99,3 +99,7 @@ limited_by None p = p
 -- the same under the budget b
 abbrev pub under : Budget → Plan Answer → Plan Answer
 under b p = limited_by b.0 p
+
+-- what it answers where it spent r and came to x
+abbrev pub unless_cut : Spent → Answer → Answer
+unless_cut r x = cond r.cut (refused refusal.Cut) x

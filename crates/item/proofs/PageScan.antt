@@ -7,12 +7,13 @@ use lib.ListN.{length}
 use Rattle.std.specs.Prelude.{Option}
 use Rattle.paper.specs.declared.Geometry.{Geometry}
 use Rattle.paper.specs.Chip.{data_start, data_size, data_end, page_data, part}
-use Rattle.paper.specs.Scan.{Walk, walk, page_walk}
+use Rattle.paper.specs.Scan.{Walk, walk, page_walk, free_spot}
 use Rattle.chip.specs.Within.{Within}
 use Rattle.chip.specs.declared.Address.{Address}
 use Rattle.chip.proofs.Geometry.{data_in}
+use Rattle.item.specs.declared.Free.{Free}
 use Rattle.item.specs.Places.{after, Inside, Room}
-use Rattle.item.specs.Scanning.{walk_from, SpotIs}
+use Rattle.item.specs.Scanning.{walk_from, FreeIs, PageFree, SpotIs}
 
 module _ {g : Geometry} (im : List ℕ) {p a e : ℕ} (w : Within g (length im)) (h : p < g.pages)
     (ea : a ≡ data_start g p) (ee : e ≡ data_end g p) where
@@ -25,6 +26,12 @@ module _ {g : Geometry} (im : List ℕ) {p a e : ℕ} (w : Within g (length im))
       let d = data_in g p (length im) w h in
       let z : data_end g p - data_start g p ≡ data_size g = omega arith in
       ap₂ (walk_from g im) ee ea ∙ ap (λ (n : ℕ). walk g 0 (data_start g p) (part (data_start g p) n im)) z
+
+  pub page_free : (r : Free) → FreeIs (walk_from g im e a) e r → PageFree g im p r
+  unfolding free_spot
+  page_free r f =
+      let s : length (walk_from g im e a).rest ≡ length (page_walk g im p).rest = ap (λ (x : Walk). length x.rest) page_walk_lem in
+      record { is = record { left = f.left ∙ s; ends = f.ends ∙ ee }; spot = omega (arith, f.left, f.ends) }
 
   pub page_spot : (n : ℕ) (r : Option Address) → SpotIs g (walk_from g im e a) e n r → SpotIs g (page_walk g im p) (data_end g p) n r
   page_spot n r f = subst (λ (x : ℕ). SpotIs g (page_walk g im p) x n r) ee (subst (λ (x : Walk). SpotIs g x e n r) page_walk_lem f)

@@ -1,11 +1,12 @@
--- The longest length that the free spot serves is what is available there; and an item which it serves fits. Assumes nothing.
+-- What the free spot serves, by the bytes that are available there; and that an item which it serves fits. Assumes nothing.
 use mathlib.Core.Path.{◌≡◌}
-use mathlib.Core.Bool.{true}
+use mathlib.Core.Bool.{true, false}
 use mathlib.Core.List.{List}
 use Prim.Native.Nat.{ℕ, ◌+◌, ◌≤◌}
 use native.Mathlib.Omega.{arith}
 use borrow.Author.Tests.{leb-true}
 use lib.ListN.{length}
+use Rattle.std.specs.Prelude.{Some, None}
 use Rattle.std.proofs.lemmas.Bool.Decides.{nat_tests}
 use Rattle.paper.specs.declared.Geometry.{Geometry}
 use Rattle.paper.specs.Chip.{round_up, round_down, header_size}
@@ -17,6 +18,17 @@ use Rattle.laws.proofs.Rounding.{round_down_le, round_up_behind}
 use Rattle.item.specs.Places.{after}
 use Rattle.item.specs.Headers.{available, available_as}
 use Rattle.item.specs.Scanning.{Served}
+
+-- ---- what is available, and what is served
+
+module _ (g : Geometry) (rest : List ℕ) where
+  pub serves_yes : (k : ℕ) → available g (length rest) ≡ Some k → (n : ℕ) → n ≤ k → serves g rest n ≡ true
+  unfolding serves available
+  serves_yes k e n l = grind (arith, nat_tests)
+
+  pub serves_none : available g (length rest) ≡ None → (n : ℕ) → serves g rest n ≡ false
+  unfolding serves available
+  serves_none e n = grind (arith, nat_tests)
 
 -- "the longest length the current page's spot serves, or none"
 pub available_longest : (g : Geometry) (rest : List ℕ) → available_as (available g (length rest)) ≡ longest g rest
