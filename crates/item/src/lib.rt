@@ -64,6 +64,17 @@ fn all_ff(bytes: &[u8]) -> bool
     bytes.iter().all(|b| *b == 0xff)
 }
 
+// What `copy_from_slice` does. Between two slices that are lent that becomes a call of memmove, and of the C library the archive needs memcpy and
+// memset alone.
+fn copy_bytes(from: &[u8], to: &mut [u8])
+    requires { length from.now ≡ length to.old }
+    ensures { (to.new ≡ from.now) × (length to.new ≡ length to.old) }
+{
+    for (i, byte) in from.iter().enumerate() {
+        to[i] = *byte;
+    }
+}
+
 // The address so many bytes further on: the one place that adds to an address. What could pass 2^32 was tested in usize before.
 fn further(address: Address, bytes: u32) -> Address
     requires { address.0 + bytes < 4294967296 }
@@ -159,7 +170,7 @@ impl ItemHeader {
         }
         let start = ItemHeader::data_address(g, address).0 as usize;
         let padded = start + size;
-        buffer[..size].copy_from_slice(&image[start..padded]);
+        copy_bytes(&image[start..padded], &mut buffer[..size]);
         let end = start + length;
         if checksum::adapted_crc32(&image[start..end]) == self.crc {
             return Ok(MaybeItem::Present(item));

@@ -17,7 +17,7 @@ returns-then-adapted_crc32-self c =
     let b = lent a.image.now c.data_address-start.ensures n in
     let p = lent a.image.now c.data_address-start.ensures c.from-length.ensures in
     read_present a.g a.image.now a.buffer.now a.address a.self c.item-item.ensures c.if-self-eq0.false c.if-buffer-size.false _
-    (c.copy_from_slice.ensures.after ∙ b) c.copy_from_slice.ensures.len
+    (c.copy_bytes.ensures.0 ∙ b) c.copy_bytes.ensures.1
     (ap data_crc (sym p) ∙ sym (data_is c.adapted_crc32.ensures) ∙ c.if-adapted_crc32-self.true)
 
 pub returns : goal.returns
@@ -27,5 +27,5 @@ returns c =
     let b = lent a.image.now c.data_address-start.ensures n in
     let p = lent a.image.now c.data_address-start.ensures c.from-length.ensures in
     read_torn a.g a.image.now a.buffer.now a.address a.self c.item-item.ensures c.if-self-eq0.false c.if-buffer-size.false _
-    (c.copy_from_slice.ensures.after ∙ b) c.copy_from_slice.ensures.len
+    (c.copy_bytes.ensures.0 ∙ b) c.copy_bytes.ensures.1
     (λ q. c.if-adapted_crc32-self.false (data_is c.adapted_crc32.ensures ∙ ap data_crc p ∙ q))
