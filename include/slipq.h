@@ -38,7 +38,7 @@
  *   different images may run at once.
  *
  * Footprint
- *   text 24108, data 0, stack 1760: bytes, as examples/footprint measured them.
+ *   text 24118, data 0, stack 1760: bytes, as examples/footprint measured them.
  *   Nothing is allocated, and of the C library memcpy and memset are called.
  *
  * What every function answers
